@@ -1,0 +1,5 @@
+pub mod Syntax
+pub mod Step
+pub mod Grid
+pub mod Race
+pub mod Told

@@ -116,6 +116,7 @@ pub record Spelled (N : ℕ → List ℕ → Type 0) (ns : List (List ℕ)) (p :
   pub cells-part : List ℕ
   pub body-part : List ℕ
   pub whole : text ≡ own-part ++ (cells-part ++ body-part)
+  pub owned : p .owns ≡ length ns
   pub own-line : Own-line ns own-part
   pub cells-line : Cells-line (p .shared) cells-part
   pub names : (k : ℕ) → k < length ns → Is-name (getD ns k [])

@@ -1,0 +1,2 @@
+pub mod Upto
+pub mod Slots

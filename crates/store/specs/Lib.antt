@@ -1,0 +1,4 @@
+pub mod Layout
+pub mod Lent
+pub mod Acts
+pub mod Ended

@@ -1,0 +1,54 @@
+// The grid of lanes and cells in lent slices. The definitions in specs/ say which grid the slices stand for.
+ghost use mathlib.Core.Path.{_≡_};
+ghost use Prim.Native.Nat.{ℕ, _+_, _*_, _<_, _≤_};
+ghost use Rattle.store.specs.Layout.{Sized, slots, place-of, room, base, size, whose, cells-room};
+ghost use Rattle.store.specs.Acts.{Did};
+ghost use Rattle.store.specs.Ended.{Ended-free};
+
+// How many groups, lanes in a group, own numbers of a lane, cells of a group, cells of the field.
+#[derive(Clone, Copy)]
+pub struct Sizes {
+    pub groups: usize,
+    pub lanes: usize,
+    pub owns: usize,
+    pub shared: usize,
+    pub field: usize,
+}
+
+// What a lane has to do next, without its expressions: which own number is set, whether the cell is the field's, and the line behind.
+#[derive(Clone, Copy)]
+pub enum Todo {
+    Put { own: u32, next: u32 },
+    Read { field: bool, own: u32, next: u32 },
+    Write { field: bool, next: u32 },
+    Branch { yes: u32, no: u32 },
+}
+
+// A touch: place 0 is the field, place g + 1 is group g; the index is the cell's in the slice of cells.
+#[derive(Clone, Copy)]
+pub struct Seen {
+    pub place: usize,
+    pub cell: u32,
+    pub wrote: bool,
+    pub index: usize,
+}
+
+// What a lane did: it touched nothing, or a cell, or went wrong as the cell isn't there.
+#[derive(Clone, Copy)]
+pub enum Deed {
+    Quiet,
+    Touched(Seen),
+    Wrong,
+}
+
+// The place of slot s of lane l of group g.
+pub fn place(z: Sizes, g: usize, s: usize, l: usize) -> usize
+    requires sized { ⌜ Sized z ⌝ }
+    requires group { ⌜ g < z .groups ⌝ }
+    requires slot { ⌜ s < slots z ⌝ }
+    requires lane { ⌜ l < z .lanes ⌝ }
+    ensures is { λ r. ⌜ r ≡ place-of z g s l ⌝ }
+    ensures within { λ r. ⌜ r < room z ⌝ }
+{
+    (g * (128 + z.owns) + s) * z.lanes + l
+}

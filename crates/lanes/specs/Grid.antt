@@ -112,4 +112,5 @@ unfoldable pub begin : Program → ℕ → ℕ → List ℕ → Grid
 begin p groups n all =
     record {
       groups-of = replicate groups (record { lanes-of = replicate n (record { own = replicate (p .owns) 0; left = p .body; wrong = false }); phase = 0 });
-      memory = record { all = all; groups = replicate groups (replicate (p .shared) 0) } }
+      memory = record { all = all; groups = replicate groups (replicate (p .shared) 0) };
+    }

@@ -3,3 +3,4 @@ pub mod Step
 pub mod Grid
 pub mod Race
 pub mod Told
+pub mod Promise

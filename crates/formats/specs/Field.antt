@@ -1,0 +1,70 @@
+-- A field in bytes: groups and lanes (two each), steps granted (eight), how many cells (four), and each cell (four).
+use mathlib.Core.Path.{_≡_}
+use mathlib.Core.Bool.{cond, _||_}
+use mathlib.Core.List.{List, [], _∷_, _++_, map}
+use Prim.Native.Nat.{ℕ, _+_, _*_, _≤_, _<_}
+use lib.Dec.{ltb}
+use lib.ListN.{length, getD}
+use Rattle.std.specs.Iters.{counting}
+use Rattle.std.specs.declared.result.Result.{Result}
+use Rattle.std.specs.declared.result.Result.the-variants.{Ok, Err}
+use Rattle.formats.specs.Bytes.{two, four, eight, two-bytes, four-bytes, eight-bytes}
+use Rattle.formats.specs.declared.refusal.Refusal.{Refusal}
+use Rattle.formats.specs.declared.refusal.Refusal.the-variants.{Field}
+use Rattle.formats.specs.declared.field.Header.{Header}
+
+-- The bytes of the cells, one after the other.
+unfoldable pub cells-bytes : List ℕ → List ℕ
+cells-bytes [] = []
+cells-bytes (c ∷ cs) = four-bytes c ++ cells-bytes cs
+
+-- The bytes of a field.
+unfoldable pub field-bytes : ℕ → ℕ → ℕ → List ℕ → List ℕ
+field-bytes groups lanes steps cells =
+    two-bytes groups ++ (two-bytes lanes ++ (eight-bytes steps ++ (four-bytes (length cells) ++ cells-bytes cells)))
+
+-- 1 to 1,024 groups and lanes, up to 2^40 steps, up to 2^24 cells.
+pub record In-range (groups lanes steps cells : ℕ) : Type 0 where
+  pub some-group : 1 ≤ groups
+  pub groups-few : groups ≤ 1024
+  pub some-lane : 1 ≤ lanes
+  pub lanes-few : lanes ≤ 1024
+  pub steps-few : steps ≤ 1099511627776
+  pub cells-few : cells ≤ 16777216
+
+-- What is read of `size` bytes with these numbers in front: the numbers, or the first byte in fault. A number is looked at once all its
+-- bytes are there. Refused is a number out of range, at its first byte; bytes that are cut short, at their length; bytes that go on, at the
+-- first one too many.
+abbrev pub read-with : (size groups lanes steps cells : ℕ) → Result Header Refusal
+read-with size groups lanes steps cells =
+    cond (ltb size 2) (Err (Field size))
+    (cond (ltb groups 1 || ltb 1024 groups) (Err (Field 0))
+    (cond (ltb size 4) (Err (Field size))
+    (cond (ltb lanes 1 || ltb 1024 lanes) (Err (Field 2))
+    (cond (ltb size 12) (Err (Field size))
+    (cond (ltb 1099511627776 steps) (Err (Field 4))
+    (cond (ltb size 16) (Err (Field size))
+    (cond (ltb 16777216 cells) (Err (Field 12))
+    (cond (ltb size (16 + 4 * cells)) (Err (Field size))
+    (cond (ltb (16 + 4 * cells) size) (Err (Field (16 + 4 * cells)))
+    (Ok (record { groups = groups; lanes = lanes; steps = steps; cells = cells })))))))))))
+
+-- What is read of a field's bytes.
+unfoldable pub read-as : List ℕ → Result Header Refusal
+read-as bs = read-with (length bs) (two bs 0) (two bs 2) (eight bs 4) (four bs 12)
+
+-- The cell k that stands in a field's bytes, and the first n cells.
+unfoldable pub cell-at : List ℕ → ℕ → ℕ
+cell-at bs k = four bs (16 + 4 * k)
+
+unfoldable pub cells-read : List ℕ → ℕ → List ℕ
+cells-read bs n = map (cell-at bs) (counting 0 n)
+
+-- The bytes of a field in range are read as that field.
+unfoldable pub Reads-back : Type 0
+Reads-back =
+    (groups lanes steps : ℕ) (cells : List ℕ)
+    → In-range groups lanes steps (length cells)
+    → ((k : ℕ) → getD cells k 0 < 4294967296)
+    → (read-as (field-bytes groups lanes steps cells) ≡ Ok (record { groups = groups; lanes = lanes; steps = steps; cells = length cells }))
+    × (cells-read (field-bytes groups lanes steps cells) (length cells) ≡ cells)

@@ -1,0 +1,3 @@
+// The outer formats: a field's bytes, what is told in print, lent memory by size.
+pub mod field;
+pub mod refusal;

@@ -1,0 +1,5 @@
+pub mod Marks
+mod Finding
+mod Keeping
+mod Words
+mod Whole

@@ -63,9 +63,11 @@ module _ (w c : ℕ) (ms : List Mark) (t : Who) (y : Bool) (rise : Rising ms (ma
   reader-part (One a) e kept = one-part a false e (kept .0) (kept .1)
   reader-part (Two a b) e kept =
       cond-both (apart-of a t) (named a false) (cond (apart-of b t) (named b false) None) (Part w c ms false (mark-of w c t y)) (λ h. (kept .0, hits w c a t false y e h))
-        (λ h. cond-both (apart-of b t) (named b false) None (Part w c ms false (mark-of w c t y)) (λ k. (kept .1, hits w c b t false y e k))
-          (λ k m was. elim (kept .2) [ inl ne ↦ absurd (readers-apart a b t h k ne)
-            | inr p ↦ spares-two w c m a b t y (risen a false (kept .0)) (p .1) (p .2) (p .3 m was .0) (p .3 m was .1) h k ]))
+      (λ h. cond-both (apart-of b t) (named b false) None (Part w c ms false (mark-of w c t y)) (λ k. (kept .1, hits w c b t false y e k))
+      (λ k m was. elim (kept .2) [
+        | inl ne ↦ absurd (readers-apart a b t h k ne)
+        | inr p ↦ spares-two w c m a b t y (risen a false (kept .0)) (p .1) (p .2) (p .3 m was .0) (p .3 m was .1) h k
+      ]))
 
   -- two reads don't race
   quiet-part : y ≡ false → Part w c ms false (mark-of w c t y) None

@@ -42,15 +42,17 @@ kept-more y w c i ms ks a wrote k all rise none v e there = by (cases-eq (y .spo
   where
     now-held : List ℕ
     now-held = held-put ks i (held-of ks i) a wrote
+
     small : Small a
     small = record { group = k .group; lane = k .lane; line = k .line }
+
     by : (y .spot v e ≡ i) ⊎ (y .spot v e ≡ i → ⊥) → Keeps v e (more ms (mark-of w c a wrote)) (held-of (held-put ks i (held-of ks i) a wrote) (y .spot v e))
     by (inl s) =
         let p = y .apart v e w c there (k .there) (s ∙ sym (k .spot)) in
         rw (s, p .0, p .1, put-same ks i a wrote (room-for y w c i a ks k) small) (keep-kept w c ms (held-of ks i) a wrote (kept-here y w c i ms ks a k all) rise none)
     by (inr ne) =
         rw (put-other ks i (y .spot v e) (held-of ks i) a wrote ne)
-          (other-cell v e ms (held-of ks (y .spot v e)) w c a wrote (λ p q. ne (rw (sym p, sym q) (k .spot))) (all v e there))
+        (other-cell v e ms (held-of ks (y .spot v e)) w c a wrote (λ p q. ne (rw (sym p, sym q) (k .spot))) (all v e there))
 
 -- words that are all 0 keep no mark
 none-entry : (ks : List ℕ) → ((k : ℕ) → getD ks k 0 ≡ 0) → (j : ℕ) → entry-of ks j ≡ None

@@ -62,8 +62,11 @@ entry-same ks j o h s =
     let h1 : 2 * j + 1 < length (set ks (2 * j) (phase-word o)) = simp length-set (h) in
     let h0 : 2 * j < length ks = omega arith in
     let ne : (2 * j ≡ 2 * j + 1 → ⊥) = λ e. omega arith in
-    rw (getD-set-same (set ks (2 * j) (phase-word o)) (2 * j + 1) (name-word o) 0 h1, getD-set-other (set ks (2 * j) (phase-word o)) (2 * j + 1) (2 * j) (name-word o) 0 ne,
-      getD-set-same ks (2 * j) (phase-word o) 0 h0) (unpack-words o s)
+    rw (
+      getD-set-same (set ks (2 * j) (phase-word o)) (2 * j + 1) (name-word o) 0 h1,
+      getD-set-other (set ks (2 * j) (phase-word o)) (2 * j + 1) (2 * j) (name-word o) 0 ne,
+      getD-set-same ks (2 * j) (phase-word o) 0 h0,
+    ) (unpack-words o s)
 
 entry-other : (ks : List ℕ) (j k : ℕ) (o : Option Who) → (k ≡ j → ⊥) → entry-of (entry-put ks j o) k ≡ entry-of ks k
 unfolding entry-of entry-put
@@ -72,8 +75,12 @@ entry-other ks j k o ne =
     let b : (2 * k ≡ 2 * j → ⊥) = λ e. ne (omega arith) in
     let c : (2 * k + 1 ≡ 2 * j + 1 → ⊥) = λ e. ne (omega arith) in
     let d : (2 * k + 1 ≡ 2 * j → ⊥) = λ e. omega arith in
-    rw (getD-set-other (set ks (2 * j) (phase-word o)) (2 * j + 1) (2 * k) (name-word o) 0 a, getD-set-other ks (2 * j) (2 * k) (phase-word o) 0 b,
-      getD-set-other (set ks (2 * j) (phase-word o)) (2 * j + 1) (2 * k + 1) (name-word o) 0 c, getD-set-other ks (2 * j) (2 * k + 1) (phase-word o) 0 d)
+    rw (
+      getD-set-other (set ks (2 * j) (phase-word o)) (2 * j + 1) (2 * k) (name-word o) 0 a,
+      getD-set-other ks (2 * j) (2 * k) (phase-word o) 0 b,
+      getD-set-other (set ks (2 * j) (phase-word o)) (2 * j + 1) (2 * k + 1) (name-word o) 0 c,
+      getD-set-other ks (2 * j) (2 * k + 1) (phase-word o) 0 d,
+    )
 
 -- readers in two entries
 abbrev Small-readers : Readers → Type 0
@@ -93,10 +100,10 @@ joined-small : (r : Readers) (t : Who) → Small-readers r → Small t → Small
 joined-small Nobody t s u = (u, tt)
 joined-small (One a) t s u =
     cond-both (not (eqb (a .group) (t .group))) _ _ Small-readers (λ _. (s .0, u))
-      (λ _. cond-both (ltb (a .phase) (t .phase)) _ _ Small-readers (λ _. (u, tt)) (λ _. cond-both (eqb (a .lane) (t .lane)) _ _ Small-readers (λ _. (s .0, tt)) (λ _. (s .0, u))))
+    (λ _. cond-both (ltb (a .phase) (t .phase)) _ _ Small-readers (λ _. (u, tt)) (λ _. cond-both (eqb (a .lane) (t .lane)) _ _ Small-readers (λ _. (s .0, tt)) (λ _. (s .0, u))))
 joined-small (Two a b) t s u =
     cond-both (not (eqb (a .group) (b .group))) _ _ Small-readers (λ _. s)
-      (λ _. cond-both (not (eqb (a .group) (t .group))) _ _ Small-readers (λ _. (s .0, u)) (λ _. cond-both (ltb (a .phase) (t .phase)) _ _ Small-readers (λ _. (u, tt)) (λ _. s)))
+    (λ _. cond-both (not (eqb (a .group) (t .group))) _ _ Small-readers (λ _. (s .0, u)) (λ _. cond-both (ltb (a .phase) (t .phase)) _ _ Small-readers (λ _. (u, tt)) (λ _. s)))
 
 held-as : (k : Held) (o : Option Who) (r : Readers) → o ≡ k .writer → r ≡ k .readers → _≡_ {A = Held} (record { writer = o; readers = r }) k
 held-as k o r p q = rw (p, q)
@@ -120,8 +127,14 @@ readers-same ks i x h s =
     let c : (3 * i + 1 ≡ 3 * i + 2 → ⊥) = λ e. omega arith in
     let r1 : 2 * (3 * i + 1) + 1 < length ks = omega arith in
     let r2 : 2 * (3 * i + 2) + 1 < length ks1 = simp (entry-length) (omega arith) in
-    rw (entry-other ks1 (3 * i + 2) (3 * i) (second-of x) b, entry-other ks (3 * i + 1) (3 * i) (first-of x) a,
-      entry-other ks1 (3 * i + 2) (3 * i + 1) (second-of x) c, entry-same ks (3 * i + 1) (first-of x) r1 (s .0), entry-same ks1 (3 * i + 2) (second-of x) r2 (s .1), by-parts x)
+    rw (
+      entry-other ks1 (3 * i + 2) (3 * i) (second-of x) b,
+      entry-other ks (3 * i + 1) (3 * i) (first-of x) a,
+      entry-other ks1 (3 * i + 2) (3 * i + 1) (second-of x) c,
+      entry-same ks (3 * i + 1) (first-of x) r1 (s .0),
+      entry-same ks1 (3 * i + 2) (second-of x) r2 (s .1),
+      by-parts x,
+    )
 
 held-small : (ks : List ℕ) (i : ℕ) → Small-readers (held-of ks i .readers)
 unfolding held-of
@@ -149,6 +162,11 @@ put-other ks i k x t false ne =
     let b1 : (3 * k + 1 ≡ 3 * i + 2 → ⊥) = λ e. omega arith in
     let a2 : (3 * k + 2 ≡ 3 * i + 1 → ⊥) = λ e. omega arith in
     let b2 : (3 * k + 2 ≡ 3 * i + 2 → ⊥) = λ e. ne (omega arith) in
-    rw (entry-other ks1 (3 * i + 2) (3 * k) (second-of r) b0, entry-other ks (3 * i + 1) (3 * k) (first-of r) a0,
-      entry-other ks1 (3 * i + 2) (3 * k + 1) (second-of r) b1, entry-other ks (3 * i + 1) (3 * k + 1) (first-of r) a1,
-      entry-other ks1 (3 * i + 2) (3 * k + 2) (second-of r) b2, entry-other ks (3 * i + 1) (3 * k + 2) (first-of r) a2)
+    rw (
+      entry-other ks1 (3 * i + 2) (3 * k) (second-of r) b0,
+      entry-other ks (3 * i + 1) (3 * k) (first-of r) a0,
+      entry-other ks1 (3 * i + 2) (3 * k + 1) (second-of r) b1,
+      entry-other ks (3 * i + 1) (3 * k + 1) (first-of r) a1,
+      entry-other ks1 (3 * i + 2) (3 * k + 2) (second-of r) b2,
+      entry-other ks (3 * i + 1) (3 * k + 2) (first-of r) a2,
+    )

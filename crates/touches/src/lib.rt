@@ -53,7 +53,10 @@ fn look(k: Held, t: Who, wrote: bool) -> Option<Found>
 {
     if let Some(a) = k.writer {
         if apart(a, t) {
-            return Some(Found { who: a, wrote: true });
+            return Some(Found {
+                who: a,
+                wrote: true,
+            });
         }
     }
     if !wrote {
@@ -62,13 +65,26 @@ fn look(k: Held, t: Who, wrote: bool) -> Option<Found>
     match k.readers {
         Readers::Nobody => None,
         Readers::One(a) => {
-            if apart(a, t) { Some(Found { who: a, wrote: false }) } else { None }
+            if apart(a, t) {
+                Some(Found {
+                    who: a,
+                    wrote: false,
+                })
+            } else {
+                None
+            }
         }
         Readers::Two(a, b) => {
             if apart(a, t) {
-                Some(Found { who: a, wrote: false })
+                Some(Found {
+                    who: a,
+                    wrote: false,
+                })
             } else if apart(b, t) {
-                Some(Found { who: b, wrote: false })
+                Some(Found {
+                    who: b,
+                    wrote: false,
+                })
             } else {
                 None
             }
@@ -123,7 +139,12 @@ fn unpacked(phase: u64, word: u64) -> Option<Who>
     let group = (p % 1024) as u32;
     let lane = (p / 1024 % 1024) as u32;
     let line = (p / 1048576 % 4294967296) as u32;
-    Some(Who { group, lane, phase, line })
+    Some(Who {
+        group,
+        lane,
+        phase,
+        line,
+    })
 }
 
 fn entry_at(kept: &[u64], j: usize) -> Option<Who>
@@ -186,7 +207,10 @@ fn held_at(kept: &[u64], i: usize) -> Held
     let writer = entry_at(kept, 3 * i);
     let a = entry_at(kept, 3 * i + 1);
     let b = entry_at(kept, 3 * i + 2);
-    Held { writer, readers: readers_from(a, b) }
+    Held {
+        writer,
+        readers: readers_from(a, b),
+    }
 }
 
 fn put_readers(kept: &mut [u64], i: usize, r: Readers)

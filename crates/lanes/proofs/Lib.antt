@@ -4,3 +4,7 @@ pub mod Turns
 pub mod Crossing
 pub mod Runs
 pub mod Orders
+pub mod Races
+pub mod Exchange
+pub mod Stuck
+pub mod Rising

@@ -1,5 +1,5 @@
 -- What is promised of the definitions. Each promise is a statement; the functions of src/lib.rt have them as their contracts.
-use mathlib.Core.Logic.{_≢_}
+use mathlib.Core.Logic.{_≢_, _⊎_}
 use mathlib.Core.Path.{_≡_}
 use mathlib.Core.Bool.{Bool, true, false, cond, _&&_}
 use mathlib.Core.List.{List, [], _∷_, _++_}
@@ -7,7 +7,7 @@ use Prim.Native.Nat.{ℕ, _≤_}
 use lib.Dec.{eqb}
 use Rattle.lanes.specs.Syntax.{Program}
 use Rattle.lanes.specs.Grid.{Grid, Turn, of, release, Mark, turns, marked, steps, can, all-ended, begin}
-use Rattle.lanes.specs.Race.{Races}
+use Rattle.lanes.specs.Race.{race, Races}
 use Rattle.lanes.specs.Told.{Fits}
 
 -- Nothing can go on: no turn can be done. All lanes have ended, or those that haven't wait for one that has.
@@ -58,9 +58,45 @@ pub record Same-touches (n : ℕ) (d : Grid) (ts us : List Turn) : Type 0 where
 unfoldable pub Phases : Type 0
 Phases = (n : ℕ) (d : Grid) (ts us : List Turn) → Still n (turns n d ts) → (Races (marked n d ts) → ⊥) → Same-touches n d ts us
 
--- Turns of different lanes: two steps of two lanes, or of two groups where one of them is that a group goes on.
+-- Turns of different lanes: steps of two lanes, or of two groups where one turn or both are that a group goes on.
 unfoldable pub Apart : Turn → Turn → Type 0
 Apart (of g l) (of h k) = g ≡ h → l ≡ k → ⊥
 Apart (of g l) (release h) = g ≢ h
 Apart (release g) (of h k) = g ≢ h
 Apart (release g) (release h) = g ≢ h
+
+-- x and u may be exchanged, whatever comes behind them: the grid is the same, and in either order their touches are those that each
+-- would have alone, and so are their steps.
+pub record Exchanged (n : ℕ) (d : Grid) (x u : Turn) : Type 0 where
+  pub same-grid : (ts : List Turn) → turns n d (x ∷ u ∷ ts) ≡ turns n d (u ∷ x ∷ ts)
+  pub touches : marked n d (x ∷ u ∷ []) ≡ marked n d (x ∷ []) ++ marked n d (u ∷ [])
+  pub touches-exchanged : marked n d (u ∷ x ∷ []) ≡ marked n d (u ∷ []) ++ marked n d (x ∷ [])
+  pub same-steps : steps n d (x ∷ u ∷ []) ≡ steps n d (u ∷ x ∷ [])
+
+-- EXCHANGE. Two turns of different lanes, one behind the other, that don't race may be exchanged, from any grid.
+unfoldable pub Exchange : Type 0
+Exchange = (n : ℕ) (d : Grid) (x u : Turn) → Apart x u → (Races (marked n d (x ∷ u ∷ [])) → ⊥) → Exchanged n d x u
+
+-- Two touches of different lanes of one group, in one phase.
+pub record Beside (a b : Mark) : Type 0 where
+  pub one-group : a .by-group ≡ b .by-group
+  pub one-phase : a .phase ≡ b .phase
+  pub two-lanes : a .by-lane ≢ b .by-lane
+
+-- What a race is, in words: the two touches are of one cell of one place, one of them writes, and they are of different groups,
+-- or of different lanes of one group in one phase.
+pub record Racing (a b : Mark) : Type 0 where
+  pub one-place : a .touch .where-is ≡ b .touch .where-is
+  pub one-cell : a .touch .cell ≡ b .touch .cell
+  pub one-writes : (a .touch .wrote ≡ true) ⊎ (b .touch .wrote ≡ true)
+  pub not-parted : (a .by-group ≢ b .by-group) ⊎ Beside a b
+
+pub record Raced (a b : Mark) : Type 0 where
+  pub only-then : race a b ≡ true → Racing a b
+  pub then-always : Racing a b → race a b ≡ true
+  pub either-way : race a b ≡ race b a
+  pub not-itself : race a a ≡ false
+
+-- WHAT A RACE IS. Two touches race exactly if they are so; whichever is named first; and no touch races with itself.
+unfoldable pub What-races : Type 0
+What-races = (a b : Mark) → Raced a b

@@ -1,5 +1,5 @@
 // The meaning of the language. The definitions are in specs/; what stands here are the theorems about them, each the contract of a function.
-ghost use Rattle.lanes.specs.Promise.{One-end, Any-order, Phases};
+ghost use Rattle.lanes.specs.Promise.{One-end, Any-order, Exchange, Phases, What-races};
 
 // Whatever the order, all comes to one grid, if one order does so without a race.
 pub fn one_end_stands() -> u8
@@ -15,9 +15,23 @@ pub fn any_order_stands() -> u8
     0
 }
 
+// Neighbouring turns of different lanes that don't race may be exchanged.
+pub fn exchange_stands() -> u8
+    ensures { λ _. ⌜ Exchange ⌝ }
+{
+    0
+}
+
 // Each lane touches the same cells, in the same order and phases, whatever the order of the turns.
 pub fn phases_stands() -> u8
     ensures { λ _. ⌜ Phases ⌝ }
+{
+    0
+}
+
+// Which two touches race, said from both sides.
+pub fn what_races_stands() -> u8
+    ensures { λ _. ⌜ What-races ⌝ }
 {
     0
 }

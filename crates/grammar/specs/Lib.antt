@@ -2,3 +2,4 @@ pub mod Spelling
 pub mod Stands
 pub mod Words
 pub mod Names
+pub mod Taken

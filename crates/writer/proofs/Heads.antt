@@ -14,7 +14,8 @@ use Rattle.std.proofs.shelf.Lists.{append-assoc, append-nil}
 use Rattle.std.proofs.shelf.Tests.{and-parts, and-from, eqb-true, eq-eqb, cases-bool, both-ways}
 use Rattle.lanes.specs.Syntax.{Program, Expr, Body, end, put, read-shared, write-shared, read-all, write-all, barrier, when, while}
 use Rattle.grammar.specs.Spelling.{digit, word-byte, each-byte, same-bytes, Is-name, Is-number, decimal, Spells-body, Own-line, Cells-line, Spelled, Named}
-use Rattle.writer.specs.Once.{Distinct, One-program}
+use Rattle.grammar.specs.Taken.{Distinct}
+use Rattle.writer.specs.Once.{One-program}
 use Rattle.writer.proofs.Parses.{front, back, front-run, back-run, each-weaker, digit-word, Unlike, name-unlike}
 use Rattle.writer.proofs.Bodies.{body-of, body-back, body-height}
 

@@ -1,14 +1,10 @@
 -- A text is one program at most.
 use mathlib.Core.Path.{_≡_}
-use mathlib.Core.List.{List, []}
-use Prim.Native.Nat.{ℕ, _<_}
-use lib.ListN.{length, getD}
+use mathlib.Core.List.{List}
+use Prim.Native.Nat.{ℕ}
 use Rattle.lanes.specs.Syntax.{Program}
 use Rattle.grammar.specs.Spelling.{Spelled, Named}
-
--- No name is there twice.
-unfoldable pub Distinct : List (List ℕ) → Type 0
-Distinct ns = (j k : ℕ) → j < length ns → k < length ns → getD ns j [] ≡ getD ns k [] → j ≡ k
+use Rattle.grammar.specs.Taken.{Distinct}
 
 -- Two programs that one text spells are the same program, with the same names.
 abbrev pub One-program : Type 0

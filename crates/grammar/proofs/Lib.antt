@@ -1,2 +1,4 @@
 pub mod Scanned
 pub mod Named
+pub mod Listed
+pub mod Runs

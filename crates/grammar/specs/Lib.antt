@@ -3,3 +3,4 @@ pub mod Stands
 pub mod Words
 pub mod Names
 pub mod Taken
+pub mod Runs

@@ -71,6 +71,14 @@ pub record Only (z : Sizes) (g l : ℕ) (ls ls′ : List ℕ) : Type 0 where
   pub others : (g′ s l′ : ℕ) → s < slots z → l′ < z .lanes → (g′ ≡ g → l′ ≡ l → ⊥) → slot-of z ls′ g′ s l′ ≡ slot-of z ls g′ s l′
   pub words : (g′ s l′ : ℕ) → 2 ≤ s → s < 128 → l′ < z .lanes → slot-of z ls′ g′ s l′ ≡ slot-of z ls g′ s l′
 
+-- Lane l of group g stands at `line`, and all else is as it was; so the grid is, if as much is left there as was where it stood.
+pub record Settled (z : Sizes) (g l line : ℕ) (ls ls′ : List ℕ) : Type 0 where
+  pub only : Only z g l ls ls′
+  pub here : line-at z ls′ g l ≡ line
+  pub same : (s : ℕ) → 1 ≤ s → s < slots z → slot-of z ls′ g s l ≡ slot-of z ls g s l
+  pub lined : (lines : ℕ) → line < lines → Lined z lines ls → Lined z lines ls′
+  pub grid : (at : ℕ → Body) (cs : List ℕ) → at line ≡ at (line-at z ls g l) → grid-of z at ls′ cs ≡ grid-of z at ls cs
+
 -- The slices stand for the beginning of a program: with what is left at line 0 its body, and as many own numbers and cells of a group
 -- as it has.
 unfoldable pub Begun : Sizes → List ℕ → List ℕ → List ℕ → Type 0

@@ -1,9 +1,16 @@
 // The grid of lanes and cells in lent slices. The definitions in specs/ say which grid the slices stand for.
-ghost use mathlib.Core.Path.{_≡_};
-ghost use Prim.Native.Nat.{ℕ, _+_, _*_, _<_, _≤_};
-ghost use Rattle.store.specs.Layout.{Sized, slots, place-of, room, base, size, whose, cells-room};
-ghost use Rattle.store.specs.Acts.{Did};
-ghost use Rattle.store.specs.Ended.{Ended-free};
+mod acts;
+mod words;
+
+pub use acts::perform;
+pub use words::go_wrong;
+pub use words::line_of;
+pub use words::own_of;
+pub use words::place;
+pub use words::put_own;
+pub use words::spot;
+pub use words::stand;
+pub use words::is_wrong;
 
 // How many groups, lanes in a group, own numbers of a lane, cells of a group, cells of the field.
 #[derive(Clone, Copy)]
@@ -39,16 +46,4 @@ pub enum Deed {
     Quiet,
     Touched(Seen),
     Wrong,
-}
-
-// The place of slot s of lane l of group g.
-pub fn place(z: Sizes, g: usize, s: usize, l: usize) -> usize
-    requires sized { ⌜ Sized z ⌝ }
-    requires group { ⌜ g < z .groups ⌝ }
-    requires slot { ⌜ s < slots z ⌝ }
-    requires lane { ⌜ l < z .lanes ⌝ }
-    ensures is { λ r. ⌜ r ≡ place-of z g s l ⌝ }
-    ensures within { λ r. ⌜ r < room z ⌝ }
-{
-    (g * (128 + z.owns) + s) * z.lanes + l
 }

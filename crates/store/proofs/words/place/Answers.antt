@@ -1,7 +1,7 @@
 use mathlib.Core.Path.{refl}
 use Rattle.store.specs.Layout.{place-of, room}
 use Rattle.store.proofs.Slots.{place-lt}
-use Rattle.store.proofs.place.Needs as need
+use Rattle.store.proofs.words.place.Needs as need
 
 pub returns : need.returns
 unfolding place-of room

@@ -8,3 +8,5 @@ pub mod Races
 pub mod Exchange
 pub mod Stuck
 pub mod Rising
+pub mod Wrong
+pub mod Verdict

@@ -136,6 +136,13 @@ pub not-both : (b : Body) → at-barrier b ≡ true → ended b ≡ true → ⊥
 unfolding at-barrier ended
 not-both b e f = grind arith
 
+-- a lane of a group that has ended doesn't wait
+pub ended-waits : (xs : List Lane) (l : ℕ) → all-lanes ended xs ≡ true → at-barrier (getD xs l no-lane .left) ≡ true → ⊥
+unfolding all-lanes at-barrier
+ended-waits [] l e w = both-ways _ refl w
+ended-waits (x ∷ xs) zero e w = not-both (x .left) w (and-parts (ended (x .left)) (all-lanes ended xs) e .0)
+ended-waits (x ∷ xs) (suc l) e w = ended-waits xs l (and-parts (ended (x .left)) (all-lanes ended xs) e .1) w
+
 pub not-barred : (xs : List Lane) → 0 < length xs → all-lanes ended xs ≡ true → all-lanes at-barrier xs ≡ false
 unfolding all-lanes
 not-barred [] h e = absurd (not-suc-le-zero h)

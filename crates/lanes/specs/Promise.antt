@@ -8,7 +8,7 @@ use lib.Dec.{eqb}
 use Rattle.lanes.specs.Syntax.{Program}
 use Rattle.lanes.specs.Grid.{Grid, Turn, of, release, Mark, turns, marked, steps, can, all-ended, begin}
 use Rattle.lanes.specs.Race.{race, Races}
-use Rattle.lanes.specs.Told.{Fits}
+use Rattle.lanes.specs.Told.{Fits, Told, cells, None-wrong, Shows, Right}
 
 -- Nothing can go on: no turn can be done. All lanes have ended, or those that haven't wait for one that has.
 unfoldable pub Still : ℕ → Grid → Type 0
@@ -100,3 +100,24 @@ pub record Raced (a b : Mark) : Type 0 where
 -- WHAT A RACE IS. Two touches race exactly if they are so; whichever is named first; and no touch races with itself.
 unfoldable pub What-races : Type 0
 What-races = (a b : Mark) → Raced a b
+
+-- What is known of any row of turns us from the grid d, once ts has shown a field: us has no race, comes to no wrong lane, has no more
+-- steps than ts, and so than were granted; and all that it can show is that field: no race, no wrong lane, no stuck group, not too long.
+pub record In-order (most n : ℕ) (d : Grid) (cs : List ℕ) (ts us : List Turn) : Type 0 where
+  pub no-race : Races (marked n d us) → ⊥
+  pub none-wrong : None-wrong (turns n d us)
+  pub no-more : steps n d us ≤ steps n d ts
+  pub granted : steps n d us ≤ most
+  pub only-field : (told : Told) → Shows most n d us told → told ≡ cells cs
+
+-- NEVER AN ACCUSATION. If one row of turns shows the field of a program in bounds, no row of turns shows anything else.
+unfoldable pub Never-accused : Type 0
+Never-accused =
+    (most : ℕ) (p : Program) (groups n : ℕ) (all cs : List ℕ) (ts us : List Turn) → Fits p groups n all →
+    Shows most n (begin p groups n all) ts (cells cs) → In-order most n (begin p groups n all) cs ts us
+
+-- ONE VERDICT. The same, of what is told: where a field may be told, nothing else may.
+unfoldable pub One-verdict : Type 0
+One-verdict =
+    (most : ℕ) (p : Program) (groups n : ℕ) (all cs : List ℕ) (told : Told) → Fits p groups n all →
+    Right most p groups n all (cells cs) → Right most p groups n all told → told ≡ cells cs

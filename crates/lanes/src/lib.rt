@@ -1,5 +1,5 @@
 // The meaning of the language. The definitions are in specs/; what stands here are the theorems about them, each the contract of a function.
-ghost use Rattle.lanes.specs.Promise.{One-end, Any-order, Exchange, Phases, What-races};
+ghost use Rattle.lanes.specs.Promise.{One-end, Any-order, Exchange, Phases, What-races, Never-accused, One-verdict};
 
 // Whatever the order, all comes to one grid, if one order does so without a race.
 pub fn one_end_stands() -> u8
@@ -32,6 +32,20 @@ pub fn phases_stands() -> u8
 // Which two touches race, said from both sides.
 pub fn what_races_stands() -> u8
     ensures { λ _. ⌜ What-races ⌝ }
+{
+    0
+}
+
+// A program in order is never accused: where one row of turns shows its field, no row shows a race, a wrong lane, a stuck group or too many steps.
+pub fn never_accused_stands() -> u8
+    ensures { λ _. ⌜ Never-accused ⌝ }
+{
+    0
+}
+
+// Where a field may be told of a program in bounds, nothing else may.
+pub fn one_verdict_stands() -> u8
+    ensures { λ _. ⌜ One-verdict ⌝ }
 {
     0
 }

@@ -1,3 +1,4 @@
 pub mod Parses
 pub mod Bodies
 pub mod Heads
+pub mod Spelt

@@ -1,0 +1,4 @@
+pub mod Left
+pub mod Rights
+pub mod Entries
+pub mod Chains

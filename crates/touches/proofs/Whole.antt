@@ -25,7 +25,7 @@ use Rattle.touches.proofs.Keeping.{keep-kept, other-cell}
 use Rattle.touches.proofs.Words.{Small, put-same, put-other}
 
 pub room-for : (y : Layout) (w c i : ℕ) (a : Who) (ks : List ℕ) → Keepable y w c i a ks → 6 * i + 5 < length ks
-room-for y w c i a ks k = let h = y .within w c (k .there) in let e = k .spot in let r = k .room in omega arith
+room-for y w c i a ks k = let h = k .laid .within w c (k .there) in let e = k .spot in let r = k .room in omega arith
 
 kept-here : (y : Layout) (w c i : ℕ) (ms : List Mark) (ks : List ℕ) (a : Who) → Keepable y w c i a ks → All-kept y ms ks → Keeps w c ms (held-of ks i)
 unfolding All-kept
@@ -48,7 +48,7 @@ kept-more y w c i ms ks a wrote k all rise none v e there = by (cases-eq (y .spo
 
     by : (y .spot v e ≡ i) ⊎ (y .spot v e ≡ i → ⊥) → Keeps v e (more ms (mark-of w c a wrote)) (held-of (held-put ks i (held-of ks i) a wrote) (y .spot v e))
     by (inl s) =
-        let p = y .apart v e w c there (k .there) (s ∙ sym (k .spot)) in
+        let p = k .laid .apart v e w c there (k .there) (s ∙ sym (k .spot)) in
         rw (s, p .0, p .1, put-same ks i a wrote (room-for y w c i a ks k) small) (keep-kept w c ms (held-of ks i) a wrote (kept-here y w c i ms ks a k all) rise none)
     by (inr ne) =
         rw (put-other ks i (y .spot v e) (held-of ks i) a wrote ne)

@@ -13,13 +13,16 @@ use Rattle.touches.specs.declared.Found.{Found}
 use Rattle.touches.specs.Kept.{mark-of, Among, Keeps, Rising}
 use Rattle.touches.specs.Code.{held-of}
 
--- Where the cells lie: how many there are at a place, and at which of the `many` spots each cell's six words are, no two at one.
+-- Where the cells lie: how many there are at a place, and at which of the `many` spots each cell's six words are.
 pub record Layout : Type 0 where
   pub size : ℕ → ℕ
   pub spot : ℕ → ℕ → ℕ
   pub many : ℕ
-  pub within : (w c : ℕ) → c < size w → spot w c < many
-  pub apart : (w c v e : ℕ) → c < size w → e < size v → spot w c ≡ spot v e → (w ≡ v) × (c ≡ e)
+
+-- No two cells are at one spot.
+pub record Laid (y : Layout) : Type 0 where
+  pub within : (w c : ℕ) → c < y .size w → y .spot w c < y .many
+  pub apart : (w c v e : ℕ) → c < y .size w → e < y .size v → y .spot w c ≡ y .spot v e → (w ≡ v) × (c ≡ e)
 
 -- The words stand for all touches of all cells among the marks.
 unfoldable pub All-kept : Layout → List Mark → List ℕ → Type 0
@@ -27,6 +30,7 @@ All-kept y ms ks = (w c : ℕ) → c < y .size w → Keeps w c ms (held-of ks (y
 
 -- A touch that can be kept: of a cell that is there, by one of 1,024 groups of 1,024 lanes, in a slice that is long enough.
 pub record Keepable (y : Layout) (w c i : ℕ) (a : Who) (ks : List ℕ) : Type 0 where
+  pub laid : Laid y
   pub there : c < y .size w
   pub spot : y .spot w c ≡ i
   pub room : 6 * y .many ≤ length ks

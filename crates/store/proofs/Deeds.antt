@@ -23,8 +23,9 @@ chosen-lt m true a b h k = h
 chosen-lt m false a b h k = k
 
 -- the place that a touch tells
-pub placed-at : (z : Sizes) (f : Bool) (g w c i : ℕ) → g < z .groups → w ≡ whose f g → i ≡ base z (whose f g) + c → i < cells-room z → (w ≤ z .groups) × (i ≡ base z w + c) × (i < cells-room z)
-placed-at z f g w c i hg e ei hi = (rw e (whose-le f g _ hg), rw e ei, hi)
+pub placed-at : (z : Sizes) (f : Bool) (g w c i : ℕ) → g < z .groups → w ≡ whose f g → i ≡ base z (whose f g) + c → i < cells-room z → c < size z (whose f g) →
+    (w ≤ z .groups) × (i ≡ base z w + c) × (i < cells-room z) × (c < size z w)
+placed-at z f g w c i hg e ei hi hc = (rw e (whose-le f g _ hg), rw e ei, hi, rw e hc)
 
 module _ (z : Sizes) (ls cs : List ℕ) (g l stop : ℕ) (lent : Lent z ls cs) (hg : g < z .groups) (hl : l < z .lanes) (ls′ : List ℕ) where
   line-only : (i : ℕ) → ls′ ≡ set ls (place-of z g 0 l) i → Only z g l ls ls′

@@ -14,7 +14,7 @@ use Rattle.store.specs.declared.Todo.{Todo}
 use Rattle.store.specs.declared.Todo.the-variants.{Put, Read, Write, Branch}
 use Rattle.store.specs.declared.Deed.{Deed}
 use Rattle.store.specs.declared.Deed.the-variants.{Quiet, Touched, Wrong}
-use Rattle.store.specs.Layout.{slots, base, cells-room}
+use Rattle.store.specs.Layout.{slots, base, size, cells-room}
 use Rattle.store.specs.Lent.{slot-of, line-at, own-of, lane-at, phase-of, grid-of, Lined, Only}
 
 -- A branch stands at an if or at a while, and its two lines are where each of the ways goes on.
@@ -75,7 +75,7 @@ went-wrong Wrong = true
 -- A touch tells the place of its cell in the slice of cells.
 abbrev pub Placed : Sizes → Deed → Type 0
 Placed z Quiet = Unit {0}
-Placed z (Touched s) = (s .place ≤ z .groups) × (s .index ≡ base z (s .place) + s .cell) × (s .index < cells-room z)
+Placed z (Touched s) = (s .place ≤ z .groups) × (s .index ≡ base z (s .place) + s .cell) × (s .index < cells-room z) × (s .cell < size z (s .place))
 Placed z Wrong = Unit {0}
 
 -- The lane's turn was done: it could be; the grid is the definition's after it; what was touched are its marks; and a lane is wrong

@@ -10,3 +10,5 @@ pub mod Stuck
 pub mod Rising
 pub mod Wrong
 pub mod Verdict
+pub mod Tested
+pub mod Rows

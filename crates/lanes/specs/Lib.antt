@@ -4,3 +4,4 @@ pub mod Grid
 pub mod Race
 pub mod Told
 pub mod Promise
+pub mod Table

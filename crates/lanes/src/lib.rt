@@ -1,5 +1,6 @@
 // The meaning of the language. The definitions are in specs/; what stands here are the theorems about them, each the contract of a function.
 ghost use Rattle.lanes.specs.Promise.{One-end, Any-order, Exchange, Phases, What-races, Never-accused, One-verdict};
+ghost use Rattle.lanes.specs.Table.{Table-stands};
 
 // Whatever the order, all comes to one grid, if one order does so without a race.
 pub fn one_end_stands() -> u8
@@ -46,6 +47,13 @@ pub fn never_accused_stands() -> u8
 // Where a field may be told of a program in bounds, nothing else may.
 pub fn one_verdict_stands() -> u8
     ensures { λ _. ⌜ One-verdict ⌝ }
+{
+    0
+}
+
+// Every row of the table of small programs: its own order shows what is told of it, and a field is that of every order.
+pub fn table_stands() -> u8
+    ensures { λ _. ⌜ Table-stands ⌝ }
 {
     0
 }

@@ -1,0 +1,84 @@
+-- Small programs, each with what is told of it and an order of turns that shows it: one table, held as a whole by one theorem.
+use mathlib.Core.Path.{_≡_}
+use mathlib.Core.Bool.{true, false}
+use mathlib.Core.List.{List, [], _∷_}
+use Prim.Native.Nat.{ℕ}
+use Rattle.lanes.specs.Syntax.{Program, end, read-shared, write-shared, write-all, fixed, var, lane, group, lanes, plus, times, rest-of}
+use Rattle.lanes.specs.Grid.{Grid, Turn, of, Mark, turns, all-ended, begin}
+use Rattle.lanes.specs.Told.{Told, cells, races, missing, Shows}
+
+-- A row of the table: a program, how many groups of how many lanes, the field before, the steps granted, an order, and what is told.
+pub record Row : Type 0 where
+  pub program : Program
+  pub groups : ℕ
+  pub lanes : ℕ
+  pub field : List ℕ
+  pub granted : ℕ
+  pub order : List Turn
+  pub told : Told
+
+-- field (lane + (group * lanes)) = (lane + 10), with 2 groups of 2 lanes: the field is 10 11 10 11.
+abbrev pub own-cells : Row
+own-cells =
+    record {
+      program = record { body = write-all (plus lane (times group lanes)) (plus lane (fixed 10)) end; owns = 0; shared = 0 };
+      groups = 2;
+      lanes = 2;
+      field = 0 ∷ 0 ∷ 0 ∷ 0 ∷ [];
+      granted = 4;
+      order = of 0 0 ∷ of 0 1 ∷ of 1 0 ∷ of 1 1 ∷ [];
+      told = cells (10 ∷ 11 ∷ 10 ∷ 11 ∷ []);
+    }
+
+-- own a; cells 4; cell lane = lane; a = cell ((lane + 1) % lanes); field lane = a, with 2 lanes: each lane reads the cell that the other
+-- writes, and no barrier parts them. Lane 0 reads cell 1 of the group, which lane 1 has written.
+abbrev pub no-barrier : Row
+no-barrier =
+    record {
+      program = record {
+        body = write-shared lane lane (read-shared 0 (rest-of (plus lane (fixed 1)) lanes) (write-all lane (var 0) end));
+        owns = 1;
+        shared = 4;
+      };
+      groups = 1;
+      lanes = 2;
+      field = 0 ∷ 0 ∷ [];
+      granted = 6;
+      order = of 0 0 ∷ of 0 1 ∷ of 0 0 ∷ [];
+      told = races
+          (record { by-group = 0; by-lane = 0; phase = 0; touch = record { where-is = 1; cell = 1; wrote = false } })
+          (record { by-group = 0; by-lane = 1; phase = 0; touch = record { where-is = 1; cell = 1; wrote = true } });
+    }
+
+-- field 5 = 1, with one lane and a field of one cell: lane 0 of group 0 touches a cell that isn't there.
+abbrev pub not-there : Row
+not-there =
+    record {
+      program = record { body = write-all (fixed 5) (fixed 1) end; owns = 0; shared = 0 };
+      groups = 1;
+      lanes = 1;
+      field = 0 ∷ [];
+      granted = 1;
+      order = of 0 0 ∷ [];
+      told = missing 0 0;
+    }
+
+abbrev pub table : List Row
+table = own-cells ∷ no-barrier ∷ not-there ∷ []
+
+abbrev pub start-of : Row → Grid
+start-of r = begin (r .program) (r .groups) (r .lanes) (r .field)
+
+-- What a row of the table says: its order shows what is told; and if that is a field, every order that comes to the end leaves it.
+pub record Row-stands (r : Row) : Type 0 where
+  pub shows : Shows (r .granted) (r .lanes) (start-of r) (r .order) (r .told)
+  pub every-order : (cs : List ℕ) → r .told ≡ cells cs → (us : List Turn) → all-ended (turns (r .lanes) (start-of r) us .groups-of) ≡ true →
+      turns (r .lanes) (start-of r) us .memory .all ≡ cs
+
+unfoldable pub All-stand : List Row → Type 0
+All-stand [] = Unit {0}
+All-stand (r ∷ rs) = Row-stands r × All-stand rs
+
+-- THE TABLE. Every row of it stands.
+unfoldable pub Table-stands : Type 0
+Table-stands = All-stand table

@@ -1,2 +1,3 @@
 // What expressions are worth: arithmetic modulo 2^32, and an expression of the text for all lanes of a row at once.
 pub mod ops;
+pub mod rows;

@@ -1,8 +1,7 @@
 // The operators, on numbers and on rows of them.
 ghost use mathlib.Core.Path.{_≡_};
 ghost use Rattle.lanes.specs.Step.{sum-of, difference-of, product-of, quotient-of, remainder-of, less-of, same-of};
-ghost use Rattle.std.specs.Options.{Cases as BySome};
-ghost use Rattle.values.specs.Ops.{op-of, byte-of, Op-at, Applied};
+ghost use Rattle.values.specs.Ops.{op-of, Op-at};
 
 #[derive(Clone, Copy)]
 pub enum Op {
@@ -84,14 +83,5 @@ pub fn op_from(b: u8) -> Option<Op>
         b'<' => Some(Op::Less),
         b'=' => Some(Op::Same),
         _ => None,
-    }
-}
-
-// x becomes x op y, number by number.
-pub fn apply_row(op: Op, x: &mut [u32], y: &[u32])
-    ensures { λ _. ⌜ Applied op (now (x .entry)) (now (y .entry)) (now (x .exit)) ⌝ }
-{
-    for i in 0..x.len().min(y.len()) {
-        x[i] = apply(op, x[i], y[i]);
     }
 }

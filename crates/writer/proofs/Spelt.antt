@@ -18,7 +18,7 @@ use Rattle.lanes.specs.Told.{Expr-fits, Body-fits}
 use Rattle.grammar.specs.Spelling.{digit, each-byte, decimal, Is-name, Is-number, Spells-expr, Spells-body, Own-line, Cells-line, Spelled, Named}
 use Rattle.writer.specs.Written.{written-expr, written-body, written, else-lines, own-line, cells-line}
 
-own : Numerals (λ ds. each-byte digit ds ≡ true) (decimal 0)
+pub own : Numerals (λ ds. each-byte digit ds ≡ true) (decimal 0)
 unfolding each-byte decimal
 own = numerals-by-fold _ (search needs) decimal (search needs)
 

@@ -1,1 +1,4 @@
 pub mod Round
+pub mod Pieces
+pub mod Lines
+pub mod Words

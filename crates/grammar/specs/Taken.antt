@@ -30,10 +30,10 @@ unfoldable pub lines-in : List ℕ → ℕ
 lines-in [] = 0
 lines-in (b ∷ bs) = cond (eqb b 10) 1 0 + lines-in bs
 
--- Each line has at most 1,024 bytes, byte 10 not counted, if the line that goes on here has k already.
-unfoldable pub short-lines : ℕ → List ℕ → Bool
-short-lines k [] = true
-short-lines k (b ∷ bs) = cond (eqb b 10) (short-lines 0 bs) (ltb k 1024 && short-lines (suc k) bs)
+-- Each line has at most m bytes, byte 10 not counted, if the line that goes on here has k already.
+unfoldable pub lines-within : ℕ → ℕ → List ℕ → Bool
+lines-within m k [] = true
+lines-within m k (b ∷ bs) = cond (eqb b 10) (lines-within m 0 bs) (ltb k m && lines-within m (suc k) bs)
 
 -- The text, with the own numbers named ns, is the program p, and within the limits.
 pub record Taken (ns : List (List ℕ)) (p : Program) (text : List ℕ) : Type 0 where
@@ -43,5 +43,5 @@ pub record Taken (ns : List (List ℕ)) (p : Program) (text : List ℕ) : Type 0
   pub few-cells : p .shared ≤ 16384
   pub fits : Body-fits (p .owns) (p .body)
   pub few-lines : lines-in text ≤ 1024
-  pub short : short-lines 0 text ≡ true
+  pub short : lines-within 1024 0 text ≡ true
   pub shallow : depth (p .body) ≤ 16

@@ -18,8 +18,8 @@ use Rattle.std.proofs.shelf.Ways.{tells}
 use Rattle.lanes.specs.Syntax.{Expr, fixed, var, lane, group, lanes, plus, minus, times, over, rest-of, less, same, Body, end, put, read-shared, write-shared, read-all, write-all, barrier, when, while, Program, ended}
 use Rattle.lanes.specs.Told.{Expr-fits, Body-fits}
 use Rattle.grammar.specs.Spelling.{digit, word-byte, each-byte, decimal, infix-of, Is-name, Is-number, Spells-expr, Spells-body, Own-line, Cells-line, Spelled, Named}
-use Rattle.grammar.specs.Taken.{Taken, lines-in, short-lines}
-use Rattle.writer.specs.Written.{written-expr, written-body, written, else-lines, own-line, cells-line, In-bounds, Every-program, Anew, names-in-turn}
+use Rattle.grammar.specs.Taken.{Taken, lines-in, lines-within}
+use Rattle.writer.specs.Written.{written-expr, written-body, written, else-lines, own-line, cells-line, In-bounds, No-longer, Every-program, Anew, names-in-turn}
 use Rattle.writer.proofs.Parses.{each-weaker}
 use Rattle.writer.proofs.Spelt.{own, number-spelt, spelt}
 use Rattle.writer.proofs.Turn.{length-turn, turn-names, turn-distinct}
@@ -160,18 +160,13 @@ module _ (ns : List (List ℕ)) (names : (k : ℕ) → k < length ns → Is-name
         | inr e ↦ rw (q, e) (led (codes "cells ") u (digits-of s) [] [] refl n shrinks-none)
       ]
 
--- Written anew, a text spells the same program, and no line of it grows.
-pub record Shrunk (text new : List ℕ) : Type 0 where
-  pub fewer : lines-in new ≤ lines-in text
-  pub short : short-lines 0 text ≡ true → short-lines 0 new ≡ true
+no-longer : (text new : List ℕ) → Shrinks text new → No-longer text new
+no-longer text new s = record { fewer = s .fewer; within = λ m h. rw append-nil at (s .short m [] [] (λ e. e) (rw (append-nil text) h)) }
 
-shrunk : (text new : List ℕ) → Shrinks text new → Shrunk text new
-shrunk text new s = record { fewer = s .fewer; short = λ h. rw append-nil at (s .short [] [] (λ e. e) (rw (append-nil text) h)) }
-
-pub shrunk-anew : (ns : List (List ℕ)) (p : Program) (text : List ℕ) → p .shared ≤ 16384 → Body-fits (p .owns) (p .body) → Spelled (Named ns) ns p text → Shrunk text (written ns p)
+pub shrunk-anew : (ns : List (List ℕ)) (p : Program) (text : List ℕ) → p .shared ≤ 16384 → Body-fits (p .owns) (p .body) → Spelled (Named ns) ns p text → No-longer text (written ns p)
 unfolding written
 shrunk-anew ns p text c f s =
-    shrunk text (own-line ns ++ (cells-line (p .shared) ++ written-body ns (p .body)))
+    no-longer text (own-line ns ++ (cells-line (p .shared) ++ written-body ns (p .body)))
     (rw (s .whole)
     (shrinks-both (s .own-part) (own-line ns) _ _ (shrink-own ns (s .names) (s .own-part) (s .own-line))
     (shrinks-both (s .cells-part) (cells-line (p .shared)) _ _ (shrink-cells ns (s .names) (p .shared) (s .cells-part) c (s .cells-line)) (shrink-body ns (s .names) (p .body) (s .body-part) (rw (s .owned) at f) (s .body)))))
@@ -180,16 +175,16 @@ pub anew : Anew
 anew ns p text t =
     let s = t .spelled in
     let r = shrunk-anew ns p text (t .few-cells) (t .fits) s in
-    record {
+    (record {
       spelled = spelt ns p (s .names) (s .owned) (t .few-cells) (t .fits);
       distinct = t .distinct;
       few-names = t .few-names;
       few-cells = t .few-cells;
       fits = t .fits;
       few-lines = omega (arith, r .fewer, t .few-lines);
-      short = r .short (t .short);
+      short = r .within 1024 (t .short);
       shallow = t .shallow;
-    }
+    }, r)
 
 pub every-program : Every-program
 every-program p b = record {

@@ -11,7 +11,7 @@ use lib.ListN.{length, getD}
 use Rattle.std.proofs.shelf.Lists.{append-assoc, length-append}
 use Rattle.std.proofs.shelf.Tests.{and-parts, and-from, lt-ltb, ltb-true, not-true}
 use Rattle.grammar.specs.Spelling.{each-byte}
-use Rattle.grammar.specs.Taken.{lines-in, short-lines}
+use Rattle.grammar.specs.Taken.{lines-in, lines-within}
 
 -- no byte 10
 abbrev pub plain : ℕ → Bool
@@ -35,35 +35,35 @@ unfolding lines-in each-byte
 lines-plain [] e = refl
 lines-plain (b ∷ u) e = let s = and-parts (plain b) (each-byte plain u) e in rw (not-ten b (s .0), lines-plain u (s .1))
 
--- a line of bytes u is short exactly if it has at most 1,024 in all
-short-out : (k : ℕ) (u z : List ℕ) → each-byte plain u ≡ true → short-lines k (u ++ (10 ∷ z)) ≡ true → k ≤ 1024 → (k + length u ≤ 1024) × (short-lines 0 z ≡ true)
-unfolding short-lines each-byte
-short-out k [] z e s h = (omega arith, s)
-short-out k (b ∷ u) z e s h =
+-- a line of bytes u is within m exactly if it has at most m in all
+short-out : (m k : ℕ) (u z : List ℕ) → each-byte plain u ≡ true → lines-within m k (u ++ (10 ∷ z)) ≡ true → k ≤ m → (k + length u ≤ m) × (lines-within m 0 z ≡ true)
+unfolding lines-within each-byte
+short-out m k [] z e s h = (omega arith, s)
+short-out m k (b ∷ u) z e s h =
     let p = and-parts (plain b) (each-byte plain u) e in
-    let q = and-parts (ltb k 1024) (short-lines (suc k) (u ++ (10 ∷ z))) (rw (not-ten b (p .0)) at s) in
-    let l = ltb-true k 1024 (q .0) in
-    let r = short-out (suc k) u z (p .1) (q .1) l in (omega (arith, r .0), r .1)
+    let q = and-parts (ltb k m) (lines-within m (suc k) (u ++ (10 ∷ z))) (rw (not-ten b (p .0)) at s) in
+    let l = ltb-true k m (q .0) in
+    let r = short-out m (suc k) u z (p .1) (q .1) l in (omega (arith, r .0), r .1)
 
-short-in : (k : ℕ) (u z : List ℕ) → each-byte plain u ≡ true → k + length u ≤ 1024 → short-lines 0 z ≡ true → short-lines k (u ++ (10 ∷ z)) ≡ true
-unfolding short-lines each-byte
-short-in k [] z e h s = s
-short-in k (b ∷ u) z e h s =
+short-in : (m k : ℕ) (u z : List ℕ) → each-byte plain u ≡ true → k + length u ≤ m → lines-within m 0 z ≡ true → lines-within m k (u ++ (10 ∷ z)) ≡ true
+unfolding lines-within each-byte
+short-in m k [] z e h s = s
+short-in m k (b ∷ u) z e h s =
     let p = and-parts (plain b) (each-byte plain u) e in
-    rw (not-ten b (p .0)) (and-from (ltb k 1024) (short-lines (suc k) (u ++ (10 ∷ z))) (lt-ltb k 1024 (omega arith)) (short-in (suc k) u z (p .1) (omega arith) s))
+    rw (not-ten b (p .0)) (and-from (ltb k m) (lines-within m (suc k) (u ++ (10 ∷ z))) (lt-ltb k m (omega arith)) (short-in m (suc k) u z (p .1) (omega arith) s))
 
 -- the whole lines t may be replaced by t′
 pub record Shrinks (t t′ : List ℕ) : Type 0 where
   pub fewer : lines-in t′ ≤ lines-in t
-  pub short : (w w′ : List ℕ) → (short-lines 0 w ≡ true → short-lines 0 w′ ≡ true) → short-lines 0 (t ++ w) ≡ true → short-lines 0 (t′ ++ w′) ≡ true
+  pub short : (m : ℕ) (w w′ : List ℕ) → (lines-within m 0 w ≡ true → lines-within m 0 w′ ≡ true) → lines-within m 0 (t ++ w) ≡ true → lines-within m 0 (t′ ++ w′) ≡ true
 
 pub shrinks-none : Shrinks [] []
-shrinks-none = record { fewer = omega arith; short = λ w w′ f s. f s }
+shrinks-none = record { fewer = omega arith; short = λ m w w′ f s. f s }
 
 pub shrinks-both : (t t′ u u′ : List ℕ) → Shrinks t t′ → Shrinks u u′ → Shrinks (t ++ u) (t′ ++ u′)
 shrinks-both t t′ u u′ p q = record {
   fewer = rw (lines-append t u, lines-append t′ u′) (omega (arith, p .fewer, q .fewer));
-  short = λ w w′ f s. rw (append-assoc t′ u′ w′) (p .short (u ++ w) (u′ ++ w′) (q .short w w′ f) (rw (append-assoc t u w) at s));
+  short = λ m w w′ f s. rw (append-assoc t′ u′ w′) (p .short m (u ++ w) (u′ ++ w′) (q .short m w w′ f) (rw (append-assoc t u w) at s));
 }
 
 -- one line, and what is behind it
@@ -71,9 +71,9 @@ pub shrinks-line : (u u′ t t′ : List ℕ) → each-byte plain u ≡ true →
 unfolding lines-in
 shrinks-line u u′ t t′ e e′ h p = record {
   fewer = rw (lines-append u (10 ∷ t), lines-append u′ (10 ∷ t′), lines-plain u e, lines-plain u′ e′) (omega (arith, p .fewer));
-  short = λ w w′ f s.
-    let r = short-out 0 u (t ++ w) e (rw (append-assoc u (10 ∷ t) w) at s) (omega arith) in
-    rw (append-assoc u′ (10 ∷ t′) w′) (short-in 0 u′ (t′ ++ w′) e′ (omega (arith, r .0)) (p .short w w′ f (r .1)));
+  short = λ m w w′ f s.
+    let r = short-out m 0 u (t ++ w) e (rw (append-assoc u (10 ∷ t) w) at s) (omega arith) in
+    rw (append-assoc u′ (10 ∷ t′) w′) (short-in m 0 u′ (t′ ++ w′) e′ (omega (arith, r .0)) (p .short m w w′ f (r .1)));
 }
 
 -- a line that is left out
@@ -81,5 +81,5 @@ pub shrinks-away : (u t t′ : List ℕ) → each-byte plain u ≡ true → Shri
 unfolding lines-in
 shrinks-away u t t′ e p = record {
   fewer = rw (lines-append u (10 ∷ t), lines-plain u e) (omega (arith, p .fewer));
-  short = λ w w′ f s. let r = short-out 0 u (t ++ w) e (rw (append-assoc u (10 ∷ t) w) at s) (omega arith) in p .short w w′ f (r .1);
+  short = λ m w w′ f s. let r = short-out m 0 u (t ++ w) e (rw (append-assoc u (10 ∷ t) w) at s) (omega arith) in p .short m w w′ f (r .1);
 }

@@ -12,7 +12,7 @@ use Rattle.std.specs.Written.{decimal as digits-of}
 use Rattle.lanes.specs.Syntax.{Expr, fixed, var, lane, group, lanes, plus, minus, times, over, rest-of, less, same, Body, end, put, read-shared, write-shared, read-all, write-all, barrier, when, while, Program, ended}
 use Rattle.lanes.specs.Told.{Body-fits}
 use Rattle.grammar.specs.Spelling.{infix-of}
-use Rattle.grammar.specs.Taken.{Taken, lines-in, short-lines, depth}
+use Rattle.grammar.specs.Taken.{Taken, lines-in, lines-within, depth}
 
 -- Numbers without leading zeros.
 unfoldable pub written-expr : List (List ℕ) → Expr → List ℕ
@@ -69,13 +69,18 @@ pub record In-bounds (p : Program) : Type 0 where
   pub few-cells : p .shared ≤ 16384
   pub fits : Body-fits (p .owns) (p .body)
   pub few-lines : lines-in (written (names-in-turn (p .owns)) p) ≤ 1024
-  pub short : short-lines 0 (written (names-in-turn (p .owns)) p) ≡ true
+  pub short : lines-within 1024 0 (written (names-in-turn (p .owns)) p) ≡ true
   pub shallow : depth (p .body) ≤ 16
 
 -- Every program in bounds has a text, and it is one that is taken.
 abbrev pub Every-program : Type 0
 Every-program = (p : Program) → In-bounds p → Taken (names-in-turn (p .owns)) p (written (names-in-turn (p .owns)) p)
 
--- A text that is taken, written anew with the names that it had, is taken as the same program.
+-- No line grows, whatever they are held to, and none is added.
+pub record No-longer (text new : List ℕ) : Type 0 where
+  pub fewer : lines-in new ≤ lines-in text
+  pub within : (m : ℕ) → lines-within m 0 text ≡ true → lines-within m 0 new ≡ true
+
+-- A text that is taken, written anew with the names that it had, is taken as the same program, and no line grows.
 abbrev pub Anew : Type 0
-Anew = (ns : List (List ℕ)) (p : Program) (text : List ℕ) → Taken ns p text → Taken ns p (written ns p)
+Anew = (ns : List (List ℕ)) (p : Program) (text : List ℕ) → Taken ns p text → Taken ns p (written ns p) × No-longer text (written ns p)

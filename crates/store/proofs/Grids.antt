@@ -49,7 +49,7 @@ module _ (z : Sizes) (at : ℕ → Body) (ls cs : List ℕ) where
   unfolding can
   can-step g l h k e = let p : g < length (grid-of z at ls cs .groups-of) = rw groups-long h in rw (lt-ltb g _ p, lt-ltb l _ k, the-lane-is g l h k, e)
 
-group-is : (xs ys : List Lane) (p q : ℕ) → xs ≡ ys → p ≡ q → _≡_ {A = Group} (record { lanes-of = xs; phase = p }) (record { lanes-of = ys; phase = q })
+pub group-is : (xs ys : List Lane) (p q : ℕ) → xs ≡ ys → p ≡ q → _≡_ {A = Group} (record { lanes-of = xs; phase = p }) (record { lanes-of = ys; phase = q })
 group-is xs ys p q a b = rw (a, b)
 
 pub only-lane : (z : Sizes) (at : ℕ → Body) (ls ls′ : List ℕ) (g l g′ l′ : ℕ) → Only z g l ls ls′ → l′ < z .lanes → (g′ ≡ g → l′ ≡ l → ⊥) → lane-at z at ls′ g′ l′ ≡ lane-at z at ls g′ l′

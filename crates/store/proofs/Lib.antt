@@ -4,3 +4,6 @@ pub mod Cells
 pub mod Grids
 pub mod Turns
 pub mod Deeds
+pub mod Goes
+pub mod Begins
+pub mod Forgets

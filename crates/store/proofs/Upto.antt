@@ -43,6 +43,14 @@ module _ {A : Type 0} (d : A) where
   pub upto-replicate : (f : ℕ → A) (n : ℕ) (a : A) → ((i : ℕ) → i < n → f i ≡ a) → upto f n ≡ replicate n a
   upto-replicate f n a h = sym (upto-is d f n (replicate n a) (length-replicate n a) (λ k l. getD-replicate n k a d l ∙ sym (h k l)))
 
+pub map-upto : {A B : Type 0} (d : B) (h : A → B) (f : ℕ → A) (n : ℕ) → map h (upto f n) ≡ upto (λ i. h (f i)) n
+unfolding upto
+map-upto d h f n = map-over (counting 0 n)
+  where
+    map-over : (xs : List ℕ) → map h (map f xs) ≡ map (λ i. h (f i)) xs
+    map-over [] = refl
+    map-over (x ∷ xs) = ap (λ ys. h (f x) ∷ ys) (map-over xs)
+
 -- the digits of a number
 pub digits-same : (m q q′ r r′ : ℕ) → r < m → r′ < m → q * m + r ≡ q′ * m + r′ → (q ≡ q′) × (r ≡ r′)
 digits-same m q q′ r r′ h h′ e =

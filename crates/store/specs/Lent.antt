@@ -1,6 +1,7 @@
 -- The grid that the lent slices stand for. What is left to do at a line is any function here, so that nothing is said of how a program
 -- is kept.
 use mathlib.Core.Path.{_≡_}
+use mathlib.Core.Logic.{_⊎_}
 use mathlib.Core.List.{List, map}
 use Prim.Native.Nat.{ℕ, zero, suc, _+_, _*_, _≤_, _<_}
 use lib.Dec.{eqb}
@@ -79,9 +80,30 @@ pub record Settled (z : Sizes) (g l line : ℕ) (ls ls′ : List ℕ) : Type 0 w
   pub lined : (lines : ℕ) → line < lines → Lined z lines ls → Lined z lines ls′
   pub grid : (at : ℕ → Body) (cs : List ℕ) → at line ≡ at (line-at z ls g l) → grid-of z at ls′ cs ≡ grid-of z at ls cs
 
+-- A word that the grid does not depend on is v, and all else is as it was, the grid too.
+pub record Aside (z : Sizes) (g s l v : ℕ) (ls ls′ : List ℕ) : Type 0 where
+  pub here : slot-of z ls′ g s l ≡ v
+  pub rest : (g′ s′ l′ : ℕ) → s′ < slots z → l′ < z .lanes → (g′ ≡ g → s′ ≡ s → l′ ≡ l → ⊥) → slot-of z ls′ g′ s′ l′ ≡ slot-of z ls g′ s′ l′
+  pub lined : (lines : ℕ) → Lined z lines ls → Lined z lines ls′
+  pub grid : (at : ℕ → Body) (cs : List ℕ) → grid-of z at ls′ cs ≡ grid-of z at ls cs
+
+-- The phase of group g is one more, and all else is as it was.
+pub record Raised (z : Sizes) (g : ℕ) (ls ls′ : List ℕ) : Type 0 where
+  pub phase : phase-of z ls′ g ≡ phase-of z ls g + 1
+  pub rest : (g′ s l : ℕ) → s < slots z → l < z .lanes → (g′ ≡ g → (s ≡ 2) ⊎ (s ≡ 3) → ⊥) → slot-of z ls′ g′ s l ≡ slot-of z ls g′ s l
+
 -- The slices stand for the beginning of a program: with what is left at line 0 its body, and as many own numbers and cells of a group
 -- as it has.
 unfoldable pub Begun : Sizes → List ℕ → List ℕ → List ℕ → Type 0
 Begun z ls cs field =
     (at : ℕ → Body) (p : Program) → at 0 ≡ p .body → p .owns ≡ z .owns → p .shared ≡ z .shared →
     grid-of z at ls cs ≡ begin p (z .groups) (z .lanes) field
+
+-- The start, whatever the lanes and the cells of groups held: each word of a lane and of a group and each cell of a group is 0, and the
+-- field is as lent. So the slices stand for the beginning.
+pub record Started (z : Sizes) (ls cs ls′ cs′ : List ℕ) : Type 0 where
+  pub words : (g s l : ℕ) → g < z .groups → s < slots z → l < z .lanes → slot-of z ls′ g s l ≡ 0
+  pub field : field-of z cs′ ≡ field-of z cs
+  pub phases : (g : ℕ) → g < z .groups → phase-of z ls′ g ≡ 0
+  pub lined : (lines : ℕ) → 0 < lines → Lined z lines ls′
+  pub begun : Begun z ls′ cs′ (field-of z cs)

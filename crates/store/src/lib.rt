@@ -1,8 +1,16 @@
 // The grid of lanes and cells in lent slices. The definitions in specs/ say which grid the slices stand for.
 mod acts;
+mod fresh;
+mod groups;
 mod words;
 
 pub use acts::perform;
+pub use fresh::room_of;
+pub use fresh::start;
+pub use groups::go_on;
+pub use groups::phase_of;
+pub use groups::put_word;
+pub use groups::word_of;
 pub use words::go_wrong;
 pub use words::line_of;
 pub use words::own_of;
@@ -11,6 +19,8 @@ pub use words::put_own;
 pub use words::spot;
 pub use words::stand;
 pub use words::is_wrong;
+
+ghost use Rattle.store.specs.Ended.{Ended-free};
 
 // How many groups, lanes in a group, own numbers of a lane, cells of a group, cells of the field.
 #[derive(Clone, Copy)]
@@ -46,4 +56,11 @@ pub enum Deed {
     Quiet,
     Touched(Seen),
     Wrong,
+}
+
+// With anything in the lent memory of lanes that have ended, everything does the same.
+pub fn ended_free_stands() -> u8
+    ensures { λ _. ⌜ Ended-free ⌝ }
+{
+    0
 }

@@ -1,0 +1,5 @@
+use Rattle.store.proofs.Forgets.{ended-free}
+use Rattle.store.proofs.ended_free_stands.Needs as need
+
+pub returns : need.returns
+returns c = ended-free

@@ -1,0 +1,3 @@
+mod Rows
+mod Marks
+mod Noted

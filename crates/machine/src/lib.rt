@@ -1,0 +1,3 @@
+// The machine: its schedulers name turns, the executor does them, touches are looked at, and what is told is right.
+pub mod note;
+pub mod outcome;

@@ -12,3 +12,4 @@ pub mod Wrong
 pub mod Verdict
 pub mod Tested
 pub mod Rows
+pub mod There

@@ -4,4 +4,5 @@ pub mod Grid
 pub mod Race
 pub mod Told
 pub mod Promise
+pub mod There
 pub mod Table

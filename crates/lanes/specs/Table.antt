@@ -3,9 +3,9 @@ use mathlib.Core.Path.{_≡_}
 use mathlib.Core.Bool.{true, false}
 use mathlib.Core.List.{List, [], _∷_}
 use Prim.Native.Nat.{ℕ}
-use Rattle.lanes.specs.Syntax.{Program, end, read-shared, write-shared, write-all, fixed, var, lane, group, lanes, plus, times, rest-of}
-use Rattle.lanes.specs.Grid.{Grid, Turn, of, Mark, turns, all-ended, begin}
-use Rattle.lanes.specs.Told.{Told, cells, races, missing, Shows}
+use Rattle.lanes.specs.Syntax.{Program, end, put, read-shared, write-shared, write-all, barrier, when, while, fixed, var, lane, group, lanes, plus, times, rest-of}
+use Rattle.lanes.specs.Grid.{Grid, Turn, of, release, Mark, turns, all-ended, begin}
+use Rattle.lanes.specs.Told.{Told, cells, races, missing, stuck, too-long, Shows}
 
 -- A row of the table: a program, how many groups of how many lanes, the field before, the steps granted, an order, and what is told.
 pub record Row : Type 0 where
@@ -63,8 +63,64 @@ not-there =
       told = missing 0 0;
     }
 
+-- field 1 = 1, with one lane and a field of one cell: the cell just behind the last one isn't there either.
+abbrev pub just-behind : Row
+just-behind =
+    record {
+      program = record { body = write-all (fixed 1) (fixed 1) end; owns = 0; shared = 0 };
+      groups = 1;
+      lanes = 1;
+      field = 0 ∷ [];
+      granted = 1;
+      order = of 0 0 ∷ [];
+      told = missing 0 0;
+    }
+
+-- As without a barrier, with one between the write and the read: the barrier parts them, and each lane has the other's number.
+abbrev pub with-barrier : Row
+with-barrier =
+    record {
+      program = record {
+        body = write-shared lane lane (barrier (read-shared 0 (rest-of (plus lane (fixed 1)) lanes) (write-all lane (var 0) end)));
+        owns = 1;
+        shared = 4;
+      };
+      groups = 1;
+      lanes = 2;
+      field = 0 ∷ 0 ∷ [];
+      granted = 6;
+      order = of 0 0 ∷ of 0 1 ∷ release 0 ∷ of 0 0 ∷ of 0 1 ∷ of 0 0 ∷ of 0 1 ∷ [];
+      told = cells (1 ∷ 0 ∷ []);
+    }
+
+-- if lane; barrier; end, with 2 lanes: lane 1 waits for lane 0, which has ended.
+abbrev pub waits-alone : Row
+waits-alone =
+    record {
+      program = record { body = when lane (barrier end) end end; owns = 0; shared = 0 };
+      groups = 1;
+      lanes = 2;
+      field = [];
+      granted = 2;
+      order = of 0 0 ∷ of 0 1 ∷ [];
+      told = stuck 0;
+    }
+
+-- own a; while 1; a = a + 1; end, with one lane and 3 steps granted: there is a fourth.
+abbrev pub without-end : Row
+without-end =
+    record {
+      program = record { body = while (fixed 1) (put 0 (plus (var 0) (fixed 1)) end) end; owns = 1; shared = 0 };
+      groups = 1;
+      lanes = 1;
+      field = [];
+      granted = 3;
+      order = of 0 0 ∷ of 0 0 ∷ of 0 0 ∷ of 0 0 ∷ [];
+      told = too-long;
+    }
+
 abbrev pub table : List Row
-table = own-cells ∷ no-barrier ∷ not-there ∷ []
+table = own-cells ∷ no-barrier ∷ not-there ∷ just-behind ∷ with-barrier ∷ waits-alone ∷ without-end ∷ []
 
 abbrev pub start-of : Row → Grid
 start-of r = begin (r .program) (r .groups) (r .lanes) (r .field)

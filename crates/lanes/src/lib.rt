@@ -1,5 +1,6 @@
 // The meaning of the language. The definitions are in specs/; what stands here are the theorems about them, each the contract of a function.
 ghost use Rattle.lanes.specs.Promise.{One-end, Any-order, Exchange, Phases, What-races, Never-accused, One-verdict};
+ghost use Rattle.lanes.specs.There.{Touches-there};
 ghost use Rattle.lanes.specs.Table.{Table-stands};
 
 // Whatever the order, all comes to one grid, if one order does so without a race.
@@ -33,6 +34,13 @@ pub fn phases_stands() -> u8
 // Which two touches race, said from both sides.
 pub fn what_races_stands() -> u8
     ensures { λ _. ⌜ What-races ⌝ }
+{
+    0
+}
+
+// Whatever is touched is there, and no place of memory becomes longer or shorter.
+pub fn touches_there_stands() -> u8
+    ensures { λ _. ⌜ Touches-there ⌝ }
 {
     0
 }

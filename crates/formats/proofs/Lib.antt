@@ -2,3 +2,5 @@ pub mod Round
 pub mod Pieces
 pub mod Lines
 pub mod Words
+pub mod Bounds
+pub mod Again

@@ -60,6 +60,12 @@ cell-at bs k = four bs (16 + 4 * k)
 unfoldable pub cells-read : List ℕ → ℕ → List ℕ
 cells-read bs n = map (cell-at bs) (counting 0 n)
 
+-- What is known of bytes that are read: the field is in range, and they are the bytes of that field.
+pub record Is-field (bs : List ℕ) (h : Header) : Type 0 where
+  pub in-range : In-range (h .groups) (h .lanes) (h .steps) (h .cells)
+  pub size : length bs ≡ 16 + 4 * h .cells
+  pub bytes : bs ≡ field-bytes (h .groups) (h .lanes) (h .steps) (cells-read bs (h .cells))
+
 -- The bytes of a field in range are read as that field.
 unfoldable pub Reads-back : Type 0
 Reads-back =

@@ -5,3 +5,4 @@ pub mod Wrote
 pub mod Hex
 pub mod Printed
 pub mod Meaning
+pub mod Sizes

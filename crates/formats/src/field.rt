@@ -3,7 +3,8 @@ ghost use mathlib.Core.Path.{_≡_};
 ghost use Prim.Native.Nat.{_+_, _*_, _<_, _≤_};
 ghost use lib.ListN.{length};
 ghost use Rattle.formats.specs.Bytes.{two as at-two, four as at-four, eight as at-eight};
-ghost use Rattle.formats.specs.Field.{read-with, read-as, cells-read, Reads-back};
+ghost use Rattle.formats.specs.Field.{read-with, read-as, cells-read, Is-field, Reads-back};
+ghost use Rattle.std.specs.Vec.{made};
 use crate::refusal::Refusal;
 
 // What stands before a field's cells.
@@ -88,7 +89,8 @@ fn read_front(bytes: &[u8]) -> Result<Header, Refusal>
 
 // What stands before the field's cells; refused at the first byte in fault.
 pub fn read_field(bytes: &[u8]) -> Result<Header, Refusal>
-    ensures { λ r. ⌜ r ≡ read-as (now (bytes .entry)) ⌝ }
+    ensures value { λ r. ⌜ r ≡ read-as (now (bytes .entry)) ⌝ }
+    ensures field { λ r. ⌜ made r (λ h. Is-field (now (bytes .entry)) h) ⌝ }
 {
     read_front(bytes)
 }

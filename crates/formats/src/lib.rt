@@ -3,4 +3,5 @@ pub mod field;
 pub mod pen;
 pub mod print;
 pub mod refusal;
+pub mod sizes;
 pub mod told;

@@ -192,7 +192,7 @@ module _ (at : ℕ → Body) where
         let p = here o (barrier b) b k refl (λ _. refl) s in
         let n = sits-next o (barrier b) b k refl (λ _. refl) s in
         from-next o b k i h (
-          fine-by o _ (cs .0) (rw (p .1) (p .0)) (omega arith) tt,
+          fine-by o _ (cs .0) (rw (p .1) (p .0)) (omega arith) refl,
           codes-fine (suc o) b k (cs .1) n (omega arith),
         )
     codes-fine o (when e c d b) k cs s r i h =

@@ -75,14 +75,14 @@ is-jump (Jump i) = true
 is-jump (Barrier i) = false
 is-jump End = false
 
--- A jump at entry i goes forward, or back to a while.
+-- A jump at entry i goes forward, or back to a while; a barrier at entry i goes on at the next.
 abbrev pub Onward : (ℕ → Step) → ℕ → Step → Type 0
 Onward code i (Put k x j) = Unit {0}
 Onward code i (Read f k x j) = Unit {0}
 Onward code i (Write f x y j) = Unit {0}
 Onward code i (Branch x y n j f) = Unit {0}
 Onward code i (Jump j) = (i < j) ⊎ (is-loop (code j) ≡ true)
-Onward code i (Barrier j) = Unit {0}
+Onward code i (Barrier j) = j ≡ suc i
 Onward code i End = Unit {0}
 
 -- The code does at each entry, and behind the last, what is left there.

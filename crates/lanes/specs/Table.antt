@@ -3,7 +3,7 @@ use mathlib.Core.Path.{_≡_}
 use mathlib.Core.Bool.{true, false}
 use mathlib.Core.List.{List, [], _∷_}
 use Prim.Native.Nat.{ℕ}
-use Rattle.lanes.specs.Syntax.{Program, end, put, read-shared, write-shared, write-all, barrier, when, while, fixed, var, lane, group, lanes, plus, times, rest-of}
+use Rattle.lanes.specs.Syntax.{Program, end, put, read-shared, write-shared, write-all, barrier, when, while, fixed, var, lane, group, lanes, plus, minus, times, over, rest-of, less, same}
 use Rattle.lanes.specs.Grid.{Grid, Turn, of, release, Mark, turns, all-ended, begin}
 use Rattle.lanes.specs.Told.{Told, cells, races, missing, stuck, too-long, Shows}
 
@@ -119,8 +119,71 @@ without-end =
       told = too-long;
     }
 
+-- barrier; cell 0 = lane, with 2 lanes: both write cell 0 of the group behind the barrier, so in phase 1.
+abbrev pub behind-barrier : Row
+behind-barrier =
+    record {
+      program = record { body = barrier (write-shared (fixed 0) lane end); owns = 0; shared = 1 };
+      groups = 1;
+      lanes = 2;
+      field = [];
+      granted = 2;
+      order = release 0 ∷ of 0 1 ∷ of 0 0 ∷ [];
+      told = races
+          (record { by-group = 0; by-lane = 0; phase = 1; touch = record { where-is = 1; cell = 0; wrote = true } })
+          (record { by-group = 0; by-lane = 1; phase = 1; touch = record { where-is = 1; cell = 0; wrote = true } });
+    }
+
+-- own a; field 0 = (4294967295 + 1); field 1 = (0 - 1); field 2 = (65536 * 65537); field 3 = (7 / 2); field 4 = (7 / 0); field 5 = (7 % 0);
+-- field 6 = (2 < 2); field 7 = (2 == 2); field 8 = a; with one lane.
+abbrev pub numbers : Row
+numbers =
+    record {
+      program = record {
+        body = write-all (fixed 0) (plus (fixed 4294967295) (fixed 1))
+            (write-all (fixed 1) (minus (fixed 0) (fixed 1))
+            (write-all (fixed 2) (times (fixed 65536) (fixed 65537))
+            (write-all (fixed 3) (over (fixed 7) (fixed 2))
+            (write-all (fixed 4) (over (fixed 7) (fixed 0))
+            (write-all (fixed 5) (rest-of (fixed 7) (fixed 0))
+            (write-all (fixed 6) (less (fixed 2) (fixed 2))
+            (write-all (fixed 7) (same (fixed 2) (fixed 2))
+            (write-all (fixed 8) (var 0) end))))))));
+        owns = 1;
+        shared = 0;
+      };
+      groups = 1;
+      lanes = 1;
+      field = 9 ∷ 9 ∷ 9 ∷ 9 ∷ 9 ∷ 9 ∷ 9 ∷ 9 ∷ 9 ∷ [];
+      granted = 9;
+      order = of 0 0 ∷ of 0 0 ∷ of 0 0 ∷ of 0 0 ∷ of 0 0 ∷ of 0 0 ∷ of 0 0 ∷ of 0 0 ∷ of 0 0 ∷ [];
+      told = cells (0 ∷ 4294967295 ∷ 65536 ∷ 3 ∷ 0 ∷ 0 ∷ 0 ∷ 1 ∷ 0 ∷ []);
+    }
+
+-- own a; if lane; a = 5; else; a = 6; end; field lane = a; while (a < 8); a = (a + 1); end; field (lane + 2) = a, with 2 lanes:
+-- lane 0 does what stands behind else, and the loop ends for both at 8.
+abbrev pub branches : Row
+branches =
+    record {
+      program = record {
+        body = when lane (put 0 (fixed 5) end) (put 0 (fixed 6) end)
+            (write-all lane (var 0)
+            (while (less (var 0) (fixed 8)) (put 0 (plus (var 0) (fixed 1)) end)
+            (write-all (plus lane (fixed 2)) (var 0) end)));
+        owns = 1;
+        shared = 0;
+      };
+      groups = 1;
+      lanes = 2;
+      field = 0 ∷ 0 ∷ 0 ∷ 0 ∷ [];
+      granted = 20;
+      order = of 0 0 ∷ of 0 0 ∷ of 0 0 ∷ of 0 0 ∷ of 0 0 ∷ of 0 0 ∷ of 0 0 ∷ of 0 0 ∷ of 0 0
+          ∷ of 0 1 ∷ of 0 1 ∷ of 0 1 ∷ of 0 1 ∷ of 0 1 ∷ of 0 1 ∷ of 0 1 ∷ of 0 1 ∷ of 0 1 ∷ of 0 1 ∷ of 0 1 ∷ [];
+      told = cells (6 ∷ 5 ∷ 8 ∷ 8 ∷ []);
+    }
+
 abbrev pub table : List Row
-table = own-cells ∷ no-barrier ∷ not-there ∷ just-behind ∷ with-barrier ∷ waits-alone ∷ without-end ∷ []
+table = own-cells ∷ no-barrier ∷ not-there ∷ just-behind ∷ with-barrier ∷ waits-alone ∷ without-end ∷ behind-barrier ∷ numbers ∷ branches ∷ []
 
 abbrev pub start-of : Row → Grid
 start-of r = begin (r .program) (r .groups) (r .lanes) (r .field)

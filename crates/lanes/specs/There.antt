@@ -1,10 +1,12 @@
--- Which cells are touched at all.
+-- Which cells are touched at all, and what becomes of a lane that would touch another.
 use mathlib.Core.Path.{_≡_}
+use mathlib.Core.Bool.{true}
 use mathlib.Core.List.{List}
 use Prim.Native.Nat.{ℕ, _<_}
 use lib.ListN.{length, getD}
+use Rattle.lanes.specs.Syntax.{Program, ended}
 use Rattle.lanes.specs.Step.{cells}
-use Rattle.lanes.specs.Grid.{Grid, Turn, Mark, turns, marked}
+use Rattle.lanes.specs.Grid.{Grid, Turn, Mark, the-lane, turns, marked, begin}
 
 -- What is known of the places of memory over a row of turns: each touch is of a cell that is there, and no place becomes longer or shorter.
 pub record Touches-in (n : ℕ) (d : Grid) (ts : List Turn) : Type 0 where
@@ -14,3 +16,10 @@ pub record Touches-in (n : ℕ) (d : Grid) (ts : List Turn) : Type 0 where
 -- TOUCHES ARE THERE. From any grid, in any order.
 unfoldable pub Touches-there : Type 0
 Touches-there = (n : ℕ) (d : Grid) (ts : List Turn) → Touches-in n d ts
+
+-- A WRONG LANE HAS ENDED. From the beginning, in any order: a lane that has gone wrong does nothing more, and stays wrong whatever follows.
+unfoldable pub Wrong-ended : Type 0
+Wrong-ended =
+    (p : Program) (groups n : ℕ) (all : List ℕ) (ts : List Turn) (g l : ℕ) → the-lane (turns n (begin p groups n all) ts) g l .wrong ≡ true →
+    (ended (the-lane (turns n (begin p groups n all) ts) g l .left) ≡ true)
+    × ((us : List Turn) → the-lane (turns n (turns n (begin p groups n all) ts) us) g l .wrong ≡ true)

@@ -1,6 +1,6 @@
 // The meaning of the language. The definitions are in specs/; what stands here are the theorems about them, each the contract of a function.
 ghost use Rattle.lanes.specs.Promise.{One-end, Any-order, Exchange, Phases, What-races, Never-accused, One-verdict};
-ghost use Rattle.lanes.specs.There.{Touches-there};
+ghost use Rattle.lanes.specs.There.{Touches-there, Wrong-ended};
 ghost use Rattle.lanes.specs.Table.{Table-stands};
 
 // Whatever the order, all comes to one grid, if one order does so without a race.
@@ -41,6 +41,13 @@ pub fn what_races_stands() -> u8
 // Whatever is touched is there, and no place of memory becomes longer or shorter.
 pub fn touches_there_stands() -> u8
     ensures { λ _. ⌜ Touches-there ⌝ }
+{
+    0
+}
+
+// A lane that has gone wrong does nothing more, and stays wrong.
+pub fn wrong_ended_stands() -> u8
+    ensures { λ _. ⌜ Wrong-ended ⌝ }
 {
     0
 }

@@ -72,11 +72,11 @@ module _ (z : Sizes) (k : Sized z) (cs ls′ cs′ : List ℕ) (lanes-clear : (i
   begun at p body owns shared =
       let first : Lane = record { own = replicate (p .owns) 0; left = p .body; wrong = false } in
       let lane-first : (g l : ℕ) → g < z .groups → l < z .lanes → lane-at z at ls′ g l ≡ first =
-        λ g l hg hl. lane-is z at ls′ g l first (own-clear g l (p .owns) hg hl owns) (ap at (line-clear g l hg hl) ∙ body) (ap (λ n. eqb n 1) (words-clear g 1 l hg (omega arith) hl)) in
+      λ g l hg hl. lane-is z at ls′ g l first (own-clear g l (p .owns) hg hl owns) (ap at (line-clear g l hg hl) ∙ body) (ap (λ n. eqb n 1) (words-clear g 1 l hg (omega arith) hl)) in
       grid-as _ _ _ _
-        (upto-replicate no-group _ (z .groups) (record { lanes-of = replicate (z .lanes) first; phase = 0 })
-          (λ g hg. group-is _ _ _ _ (upto-replicate no-lane _ (z .lanes) first (λ l hl. lane-first g l hg hl)) (phase-clear g hg)))
-        (memory-as _ _ _ _ field-same (groups-clear (p .shared) shared))
+      (upto-replicate no-group _ (z .groups) (record { lanes-of = replicate (z .lanes) first; phase = 0 })
+      (λ g hg. group-is _ _ _ _ (upto-replicate no-lane _ (z .lanes) first (λ l hl. lane-first g l hg hl)) (phase-clear g hg)))
+      (memory-as _ _ _ _ field-same (groups-clear (p .shared) shared))
 
   pub started : (ls : List ℕ) → Started z ls cs ls′ cs′
   started ls = record { words = words-clear; field = field-same; phases = phase-clear; lined = lined-clear; begun = begun }

@@ -59,12 +59,12 @@ pub memory-store : (z : Sizes) (cs : List ℕ) (w c v : ℕ) → w ≤ z .groups
 unfolding memory-of field-of store size
 memory-store z cs zero c v hw hc fit =
     memory-is _ _ _ _
-      (upto-set 0 _ _ (z .field) c v (spot-here z cs 0 c v hw hc fit) (λ j h ne. spot-other z cs 0 c v hw hc 0 j hw h (λ _ e. ne e)))
-      (upto-same [] _ _ (z .groups) (λ g h. upto-same 0 _ _ (z .shared) (λ j k. spot-other z cs 0 c v hw hc (suc g) j h k (λ e _. omega arith))))
+    (upto-set 0 _ _ (z .field) c v (spot-here z cs 0 c v hw hc fit) (λ j h ne. spot-other z cs 0 c v hw hc 0 j hw h (λ _ e. ne e)))
+    (upto-same [] _ _ (z .groups) (λ g h. upto-same 0 _ _ (z .shared) (λ j k. spot-other z cs 0 c v hw hc (suc g) j h k (λ e _. omega arith))))
 memory-store z cs (suc g) c v hw hc fit =
     memory-is _ _ _ _
-      (upto-same 0 _ _ (z .field) (λ j k. spot-other z cs (suc g) c v hw hc 0 j (omega arith) k (λ e _. omega arith)))
-      (upto-set [] _ _ (z .groups) g _
-        (rw (upto-at [] (λ g. upto (λ c. getD cs (base z (suc g) + c) 0) (z .shared)) (z .groups) g hw)
-          (upto-set 0 _ _ (z .shared) c v (spot-here z cs (suc g) c v hw hc fit) (λ j h ne. spot-other z cs (suc g) c v hw hc (suc g) j hw h (λ _ e. ne e))))
-        (λ i h ne. upto-same 0 _ _ (z .shared) (λ j k. spot-other z cs (suc g) c v hw hc (suc i) j h k (λ e _. ne (omega arith)))))
+    (upto-same 0 _ _ (z .field) (λ j k. spot-other z cs (suc g) c v hw hc 0 j (omega arith) k (λ e _. omega arith)))
+    (upto-set [] _ _ (z .groups) g _
+    (rw (upto-at [] (λ g. upto (λ c. getD cs (base z (suc g) + c) 0) (z .shared)) (z .groups) g hw)
+    (upto-set 0 _ _ (z .shared) c v (spot-here z cs (suc g) c v hw hc fit) (λ j h ne. spot-other z cs (suc g) c v hw hc (suc g) j hw h (λ _ e. ne e))))
+    (λ i h ne. upto-same 0 _ _ (z .shared) (λ j k. spot-other z cs (suc g) c v hw hc (suc i) j h k (λ e _. ne (omega arith)))))

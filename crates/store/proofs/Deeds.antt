@@ -33,45 +33,57 @@ module _ (z : Sizes) (ls cs : List ℕ) (g l stop : ℕ) (lent : Lent z ls cs) (
 
   pub done-put : (k i c v : ℕ) → k < z .owns → ls′ ≡ set (set ls (place-of z g (128 + k) l) c) (place-of z g 0 l) i → Did z ls cs ls′ cs g l stop (Put k i) c v Quiet
   done-put k i c v hk el =
-      record { lined = λ lines hs goes h. lined-twice z g l lines hl ls ls′ (128 + k) c i (lent .lanes-fit) (omega arith) (λ e. omega arith) goes el h;
+      record {
+        lined = λ lines hs goes h. lined-twice z g l lines hl ls ls′ (128 + k) c i (lent .lanes-fit) (omega arith) (λ e. omega arith) goes el h;
         only = only-twice z ls cs g l lent hg hl ls′ (128 + k) c i (omega arith) (inr (omega arith)) el;
         placed = tt;
-        turned = λ at ends ready. turned-put z at ls cs g l lent hg hl ls′ k i c v hk ready el }
+        turned = λ at ends ready. turned-put z at ls cs g l lent hg hl ls′ k i c v hk ready el;
+      }
 
   pub done-read : (f : Bool) (k i c v x : ℕ) (s : Seen) → k < z .owns → c < size z (whose f g) → x ≡ getD cs (base z (whose f g) + c) 0 →
       ls′ ≡ set (set ls (place-of z g (128 + k) l) x) (place-of z g 0 l) i → s .place ≡ whose f g → s .cell ≡ c → s .wrote ≡ false → Placed z (Touched s) →
       Did z ls cs ls′ cs g l stop (Read f k i) c v (Touched s)
   done-read f k i c v x s hk hc ex el ep es ew placed =
-      record { lined = λ lines hs goes h. lined-twice z g l lines hl ls ls′ (128 + k) x i (lent .lanes-fit) (omega arith) (λ e. omega arith) goes el h;
+      record {
+        lined = λ lines hs goes h. lined-twice z g l lines hl ls ls′ (128 + k) x i (lent .lanes-fit) (omega arith) (λ e. omega arith) goes el h;
         only = only-twice z ls cs g l lent hg hl ls′ (128 + k) x i (omega arith) (inr (omega arith)) el;
         placed = placed;
-        turned = λ at ends ready. turned-read z at ls cs g l lent hg hl ls′ f k i c v x (Touched s) hk hc ex el (rw (ep, es, ew)) refl ready }
+        turned = λ at ends ready. turned-read z at ls cs g l lent hg hl ls′ f k i c v x (Touched s) hk hc ex el (rw (ep, es, ew)) refl ready;
+      }
 
   pub done-write : (cs′ : List ℕ) (f : Bool) (i c v : ℕ) (s : Seen) → c < size z (whose f g) → cs′ ≡ set cs (base z (whose f g) + c) v →
       ls′ ≡ set ls (place-of z g 0 l) i → s .place ≡ whose f g → s .cell ≡ c → s .wrote ≡ true → Placed z (Touched s) → Did z ls cs ls′ cs′ g l stop (Write f i) c v (Touched s)
   done-write cs′ f i c v s hc em el ep es ew placed =
-      record { lined = λ lines hs goes h. rw el (lined-line z g l lines hl ls i (lent .lanes-fit) goes h);
+      record {
+        lined = λ lines hs goes h. rw el (lined-line z g l lines hl ls i (lent .lanes-fit) goes h);
         only = line-only i el;
         placed = placed;
-        turned = λ at ends ready. turned-write z at ls cs g l lent hg hl ls′ cs′ f i c v (Touched s) hc em el (rw (ep, es, ew)) refl ready }
+        turned = λ at ends ready. turned-write z at ls cs g l lent hg hl ls′ cs′ f i c v (Touched s) hc em el (rw (ep, es, ew)) refl ready;
+      }
 
   pub done-branch : (y n c v i : ℕ) → i ≡ cond (eqb c 0) n y → ls′ ≡ set ls (place-of z g 0 l) i → Did z ls cs ls′ cs g l stop (Branch y n) c v Quiet
   done-branch y n c v i ei el =
-      record { lined = λ lines hs goes h. rw el (lined-line z g l lines hl ls i (lent .lanes-fit) (rw ei (chosen-lt lines (eqb c 0) n y (goes .1) (goes .0))) h);
+      record {
+        lined = λ lines hs goes h. rw el (lined-line z g l lines hl ls i (lent .lanes-fit) (rw ei (chosen-lt lines (eqb c 0) n y (goes .1) (goes .0))) h);
         only = line-only i el;
         placed = tt;
-        turned = λ at ends ready. turned-branch z at ls cs g l lent hg hl ls′ y n c v i ei el ready }
+        turned = λ at ends ready. turned-branch z at ls cs g l lent hg hl ls′ y n c v i ei el ready;
+      }
 
   pub missed-read : (f : Bool) (k i c v : ℕ) → size z (whose f g) ≤ c → ls′ ≡ set (set ls (place-of z g 1 l) 1) (place-of z g 0 l) stop → Did z ls cs ls′ cs g l stop (Read f k i) c v Wrong
   missed-read f k i c v hc el =
-      record { lined = λ lines hs goes h. lined-twice z g l lines hl ls ls′ 1 1 stop (lent .lanes-fit) (omega arith) (λ e. omega arith) hs el h;
+      record {
+        lined = λ lines hs goes h. lined-twice z g l lines hl ls ls′ 1 1 stop (lent .lanes-fit) (omega arith) (λ e. omega arith) hs el h;
         only = only-twice z ls cs g l lent hg hl ls′ 1 1 stop (omega arith) (inl (omega arith)) el;
         placed = tt;
-        turned = λ at ends ready. wrong-read z at ls cs g l lent hg hl ls′ f k i stop c v hc ends el ready }
+        turned = λ at ends ready. wrong-read z at ls cs g l lent hg hl ls′ f k i stop c v hc ends el ready;
+      }
 
   pub missed-write : (f : Bool) (i c v : ℕ) → size z (whose f g) ≤ c → ls′ ≡ set (set ls (place-of z g 1 l) 1) (place-of z g 0 l) stop → Did z ls cs ls′ cs g l stop (Write f i) c v Wrong
   missed-write f i c v hc el =
-      record { lined = λ lines hs goes h. lined-twice z g l lines hl ls ls′ 1 1 stop (lent .lanes-fit) (omega arith) (λ e. omega arith) hs el h;
+      record {
+        lined = λ lines hs goes h. lined-twice z g l lines hl ls ls′ 1 1 stop (lent .lanes-fit) (omega arith) (λ e. omega arith) hs el h;
         only = only-twice z ls cs g l lent hg hl ls′ 1 1 stop (omega arith) (inl (omega arith)) el;
         placed = tt;
-        turned = λ at ends ready. wrong-write z at ls cs g l lent hg hl ls′ f i stop c v hc ends el ready }
+        turned = λ at ends ready. wrong-write z at ls cs g l lent hg hl ls′ f i stop c v hc ends el ready;
+      }

@@ -102,15 +102,15 @@ unfolding did
 did-forgot n d (of g l) e =
     let a = act-forgot n d g l e in
     grid-parts _ _ _ _
-      (rw (a, group-forgot d g) (map-set forget-group (map forget-group (d .groups-of)) g _
-        ∙ rw (groups-twice (d .groups-of), map-set forget-group (d .groups-of) g (with-lane (the-group d g) l (lane-of (the-act n d g l) (d .memory))))
-            (ap (λ (q : Group). set (map forget-group (d .groups-of)) g q)
-              (group-is _ _ _ _ (map-set forget-lane (map forget-lane (the-group d g .lanes-of)) l _ ∙ rw (lanes-twice (the-group d g .lanes-of)) (sym (map-set forget-lane (the-group d g .lanes-of) l _))) refl))))
-      (rw a refl)
+    (rw (a, group-forgot d g) (map-set forget-group (map forget-group (d .groups-of)) g _
+    ∙ rw (groups-twice (d .groups-of), map-set forget-group (d .groups-of) g (with-lane (the-group d g) l (lane-of (the-act n d g l) (d .memory))))
+    (ap (λ (q : Group). set (map forget-group (d .groups-of)) g q)
+    (group-is _ _ _ _ (map-set forget-lane (map forget-lane (the-group d g .lanes-of)) l _ ∙ rw (lanes-twice (the-group d g .lanes-of)) (sym (map-set forget-lane (the-group d g .lanes-of) l _))) refl))))
+    (rw a refl)
 did-forgot n d (release g) e =
     let same : the-group (forget d) g ≡ the-group d g = group-forgot d g ∙ group-is _ _ _ _ (lanes-waiting (the-group d g .lanes-of) (release-waits n d g e)) refl in
     grid-parts _ _ _ _
-      (map-set forget-group (map forget-group (d .groups-of)) g _ ∙ rw (groups-twice (d .groups-of), same) (sym (map-set forget-group (d .groups-of) g (gone-on (the-group d g))))) refl
+    (map-set forget-group (map forget-group (d .groups-of)) g _ ∙ rw (groups-twice (d .groups-of), same) (sym (map-set forget-group (d .groups-of) g (gone-on (the-group d g))))) refl
 
 turn-forgot : (n : ℕ) (d : Grid) (t : Turn) → forget (turn n (forget d) t) ≡ forget (turn n d t)
 unfolding turn
@@ -174,14 +174,14 @@ module _ (z : Sizes) (at : ℕ → Body) (ls ls′ : List ℕ) (alike : Alike z 
   unfolding group-at
   group-alike g hg =
       group-is _ _ _ _
-        (map-upto no-lane forget-lane (lane-at z at ls′ g) (z .lanes) ∙ upto-same no-lane _ _ (z .lanes) (λ l hl. lane-alike g l hg hl) ∙ sym (map-upto no-lane forget-lane (lane-at z at ls g) (z .lanes)))
-        (alike .phases g hg)
+      (map-upto no-lane forget-lane (lane-at z at ls′ g) (z .lanes) ∙ upto-same no-lane _ _ (z .lanes) (λ l hl. lane-alike g l hg hl) ∙ sym (map-upto no-lane forget-lane (lane-at z at ls g) (z .lanes)))
+      (alike .phases g hg)
 
   pub grid-alike : (cs : List ℕ) → forget (grid-of z at ls′ cs) ≡ forget (grid-of z at ls cs)
   unfolding grid-of
   grid-alike cs =
       grid-parts _ _ _ _
-        (map-upto no-group forget-group (group-at z at ls′) (z .groups) ∙ upto-same no-group _ _ (z .groups) group-alike ∙ sym (map-upto no-group forget-group (group-at z at ls) (z .groups))) refl
+      (map-upto no-group forget-group (group-at z at ls′) (z .groups) ∙ upto-same no-group _ _ (z .groups) group-alike ∙ sym (map-upto no-group forget-group (group-at z at ls) (z .groups))) refl
 
 pub ended-free : Ended-free
 unfolding Ended-free

@@ -28,13 +28,15 @@ put-aside z g s l v ls ls′ k hg h4 hs hl fit e =
     let hz : s < slots z = omega arith in
     let some : 0 < z .lanes = omega (arith, k .some-lane) in
     let other : (g′ s′ l′ : ℕ) → s′ < slots z → l′ < z .lanes → (g′ ≡ g → s′ ≡ s → l′ ≡ l → ⊥) → slot-of z ls′ g′ s′ l′ ≡ slot-of z ls g′ s′ l′ =
-      λ g′ s′ l′ hs′ hl′ ne. rw e (slot-other z g s l hz hl ls v g′ s′ l′ hs′ hl′ ne) in
-    record { here = rw e (slot-same z g s l hz hl ls v hg fit);
+    λ g′ s′ l′ hs′ hl′ ne. rw e (slot-other z g s l hz hl ls v g′ s′ l′ hs′ hl′ ne) in
+    record {
+      here = rw e (slot-same z g s l hz hl ls v hg fit);
       rest = other;
       lined = λ lines h. rw e (lined-slot z g l lines hl ls s v hz (λ x. omega arith) h);
       grid = λ at cs. grid-kept z at ls ls′ cs
-        (λ g′ l′ _ hl′. lane-same z at ls ls′ g′ l′ (λ s′ hs′ own. other g′ s′ l′ hs′ hl′ (λ _ x _. apart s′ own x)))
-        (λ g′ _. phase-same z ls ls′ g′ (other g′ 2 0 (omega arith) some (λ _ x _. omega arith)) (other g′ 3 0 (omega arith) some (λ _ x _. omega arith))) }
+          (λ g′ l′ _ hl′. lane-same z at ls ls′ g′ l′ (λ s′ hs′ own. other g′ s′ l′ hs′ hl′ (λ _ x _. apart s′ own x)))
+          (λ g′ _. phase-same z ls ls′ g′ (other g′ 2 0 (omega arith) some (λ _ x _. omega arith)) (other g′ 3 0 (omega arith) some (λ _ x _. omega arith)));
+    }
   where
     apart : (s′ : ℕ) → (s′ < 2) ⊎ (128 ≤ s′) → s′ ≡ s → ⊥
     apart s′ (inl a) x = omega arith
@@ -52,8 +54,10 @@ put-phase z g a b ls ls′ k hg fit e el =
     let fit′ : room z ≤ length (set ls (place-of z g 2 0) a) = rw length-set fit in
     let low : slot-of z ls′ g 2 0 ≡ a = rw el (slot-other z g 3 0 (omega arith) some (set ls (place-of z g 2 0) a) b g 2 0 (omega arith) some (λ _ x _. omega arith) ∙ slot-same z g 2 0 (omega arith) some ls a hg fit) in
     let high : slot-of z ls′ g 3 0 ≡ b = rw el (slot-same z g 3 0 (omega arith) some (set ls (place-of z g 2 0) a) b hg fit′) in
-    record { phase = rw (low, high) e;
-      rest = λ g′ s l hs hl ne. rw el (slot-other z g 3 0 (omega arith) some (set ls (place-of z g 2 0) a) b g′ s l hs hl (λ x y _. ne x (inr y)) ∙ slot-other z g 2 0 (omega arith) some ls a g′ s l hs hl (λ x y _. ne x (inl y))) }
+    record {
+      phase = rw (low, high) e;
+      rest = λ g′ s l hs hl ne. rw el (slot-other z g 3 0 (omega arith) some (set ls (place-of z g 2 0) a) b g′ s l hs hl (λ x y _. ne x (inr y)) ∙ slot-other z g 2 0 (omega arith) some ls a g′ s l hs hl (λ x y _. ne x (inl y)));
+    }
 
 -- lanes stand one line further, one after the other
 pub further-none : (z : Sizes) (g : ℕ) (ls : List ℕ) → Further z g 0 ls ls
@@ -64,10 +68,12 @@ pub further-more : (z : Sizes) (g l line : ℕ) (ls ls′ ls″ : List ℕ) → 
 unfolding line-at
 further-more z g l line ls ls′ ls″ hg hl fit en e f =
     let other : (g′ s l′ : ℕ) → s < slots z → l′ < z .lanes → (g′ ≡ g → s ≡ 0 → l′ ≡ l → ⊥) → slot-of z ls″ g′ s l′ ≡ slot-of z ls′ g′ s l′ =
-      λ g′ s l′ hs hl′ ne. rw e (slot-other z g 0 l (omega arith) hl ls′ (line + 1) g′ s l′ hs hl′ ne) in
+    λ g′ s l′ hs hl′ ne. rw e (slot-other z g 0 l (omega arith) hl ls′ (line + 1) g′ s l′ hs hl′ ne) in
     let here : slot-of z ls″ g 0 l ≡ slot-of z ls g 0 l + 1 = rw (e, slot-same z g 0 l (omega arith) hl ls′ (line + 1) hg fit, en, f .rest g 0 l (omega arith) hl (λ _ _ h. omega arith)) in
-    record { on = λ l′ h. by l′ h here other (cases-eq l′ l);
-      rest = λ g′ s l′ hs hl′ ne. other g′ s l′ hs hl′ (λ a b x. ne a b (omega arith)) ∙ f .rest g′ s l′ hs hl′ (λ a b x. ne a b (omega arith)) }
+    record {
+      on = λ l′ h. by l′ h here other (cases-eq l′ l);
+      rest = λ g′ s l′ hs hl′ ne. other g′ s l′ hs hl′ (λ a b x. ne a b (omega arith)) ∙ f .rest g′ s l′ hs hl′ (λ a b x. ne a b (omega arith));
+    }
   where
     by : (l′ : ℕ) → l′ < l + 1 → slot-of z ls″ g 0 l ≡ slot-of z ls g 0 l + 1 →
         ((g′ s l′ : ℕ) → s < slots z → l′ < z .lanes → (g′ ≡ g → s ≡ 0 → l′ ≡ l → ⊥) → slot-of z ls″ g′ s l′ ≡ slot-of z ls′ g′ s l′) →
@@ -129,13 +135,14 @@ module _ (z : Sizes) (k : Sized z) (g : ℕ) (hg : g < z .groups) (ls ls′ ls�
   unfolding lane-at own-of
   lane-on at l hl =
       lane-is z at ls″ g l (goes-to (lane-at z at ls g l) (at (line-at z ls g l + 1)))
-        (upto-same 0 _ _ (z .owns) (λ j h. slot-as g (128 + j) l (omega arith) hl (λ _ b. high j b)))
-        (ap at (line-on l hl)) (ap (λ n. eqb n 1) (slot-as g 1 l (omega arith) hl (λ _ b. one b)))
+      (upto-same 0 _ _ (z .owns) (λ j h. slot-as g (128 + j) l (omega arith) hl (λ _ b. high j b)))
+      (ap at (line-on l hl)) (ap (λ n. eqb n 1) (slot-as g 1 l (omega arith) hl (λ _ b. one b)))
     where
       high : (j : ℕ) → (128 + j ≡ 0) ⊎ (128 + j ≡ 2) ⊎ (128 + j ≡ 3) → ⊥
       high j (inl x) = omega arith
       high j (inr (inl x)) = omega arith
       high j (inr (inr x)) = omega arith
+
       one : _≡_ {A = ℕ} 1 0 ⊎ _≡_ {A = ℕ} 1 2 ⊎ _≡_ {A = ℕ} 1 3 → ⊥
       one (inl x) = omega arith
       one (inr (inl x)) = omega arith
@@ -153,8 +160,8 @@ module _ (z : Sizes) (k : Sized z) (g : ℕ) (hg : g < z .groups) (ls ls′ ls�
     lanes-past : upto (lane-at z at ls″ g) (z .lanes) ≡ all-past (upto (lane-at z at ls g) (z .lanes))
     lanes-past =
         sym (upto-is no-lane (lane-at z at ls″ g) (z .lanes) (all-past (upto (lane-at z at ls g) (z .lanes))) (past-length (upto (lane-at z at ls g) (z .lanes)) ∙ upto-length (lane-at z at ls g) (z .lanes))
-          (λ l h. let p : l < length (upto (lane-at z at ls g) (z .lanes)) = rw upto-length h in
-            past-at (upto (lane-at z at ls g) (z .lanes)) l p ∙ rw (upto-at no-lane (lane-at z at ls g) (z .lanes) l h) (ap (goes-to (lane-at z at ls g l)) (past-is l h) ∙ sym (lane-on at l h))))
+        (λ l h. let p : l < length (upto (lane-at z at ls g) (z .lanes)) = rw upto-length h in
+        past-at (upto (lane-at z at ls g) (z .lanes)) l p ∙ rw (upto-at no-lane (lane-at z at ls g) (z .lanes) l h) (ap (goes-to (lane-at z at ls g l)) (past-is l h) ∙ sym (lane-on at l h))))
 
     waits : (l : ℕ) → l < z .lanes → at-barrier (lane-at z at ls g l .left) ≡ true
     unfolding at-barrier
@@ -199,5 +206,11 @@ module _ (z : Sizes) (k : Sized z) (g : ℕ) (hg : g < z .groups) (ls ls′ ls�
 
   pub released : (cs : List ℕ) → Released z g ls cs ls″
   released cs =
-      record { lines = line-on; rest = slot-as; phase = phase-on; lined = lined-on;
-        could = λ at bar. can-go at cs bar; grid = λ at bar. went-on at cs bar }
+      record {
+        lines = line-on;
+        rest = slot-as;
+        phase = phase-on;
+        lined = lined-on;
+        could = λ at bar. can-go at cs bar;
+        grid = λ at bar. went-on at cs bar;
+      }

@@ -67,8 +67,8 @@ module _ (z : Sizes) (at : ℕ → Body) (ls cs ls′ cs′ : List ℕ) (g l : �
   unfolding grid-of group-at
   grid-same y m here mem =
       let gs = upto-set no-group (group-at z at ls) (group-at z at ls′) (z .groups) g (with-lane (group-at z at ls g) l y)
-                 (group-is _ _ _ _ (upto-set no-lane (lane-at z at ls g) (lane-at z at ls′ g) (z .lanes) l y here (λ j h ne. only-lane z at ls ls′ g l g j only h (λ _ e. ne e))) (only-phase z ls ls′ g l g k only))
-                 (λ i h ne. group-is _ _ _ _ (upto-same no-lane _ _ (z .lanes) (λ j h. only-lane z at ls ls′ g l i j only h (λ e _. ne e))) (only-phase z ls ls′ g l i k only))
+      (group-is _ _ _ _ (upto-set no-lane (lane-at z at ls g) (lane-at z at ls′ g) (z .lanes) l y here (λ j h ne. only-lane z at ls ls′ g l g j only h (λ _ e. ne e))) (only-phase z ls ls′ g l g k only))
+      (λ i h ne. group-is _ _ _ _ (upto-same no-lane _ _ (z .lanes) (λ j h. only-lane z at ls ls′ g l i j only h (λ e _. ne e))) (only-phase z ls ls′ g l i k only))
       in rw (gs, mem)
 
   module _ (a : Act) (steps : stepping (lane-at z at ls g l .left) ≡ true) (is : act (z .lanes) l g (z .field) (z .shared) (lane-at z at ls g l) ≡ a) where
@@ -91,7 +91,7 @@ pub grid-kept : (z : Sizes) (at : ℕ → Body) (ls ls′ cs : List ℕ) → ((g
 unfolding grid-of group-at
 grid-kept z at ls ls′ cs same phases =
     ap (λ (gs : List Group). record { groups-of = gs; memory = memory-of z cs })
-      (upto-same no-group (group-at z at ls′) (group-at z at ls) (z .groups) (λ g h. group-is _ _ _ _ (upto-same no-lane _ _ (z .lanes) (λ l k. same g l h k)) (phases g h)))
+    (upto-same no-group (group-at z at ls′) (group-at z at ls) (z .groups) (λ g h. group-is _ _ _ _ (upto-same no-lane _ _ (z .lanes) (λ l k. same g l h k)) (phases g h)))
 
 stays : (x : Lane) (b : Body) → b ≡ x .left → goes-to x b ≡ x
 stays x b e = rw e
@@ -116,8 +116,10 @@ module _ (z : Sizes) (k : Sized z) (g l line : ℕ) (hg : g < z .groups) (hl : l
   pub settled : Settled z g l line ls ls′
   unfolding line-at
   settled =
-      record { only = stood;
+      record {
+        only = stood;
         here = rw e (slot-same z g 0 l (omega arith) hl ls line hg fit);
         same = λ s h1 hs. rw e (slot-other z g 0 l (omega arith) hl ls line g s l hs hl (λ _ x _. omega arith));
         lined = λ lines h inl′. rw e (lined-line z g l lines hl ls line fit h inl′);
-        grid = λ at cs q. grid-kept z at ls ls′ cs (λ g′ l′ a b. stood-lane at q g′ l′ a b) (λ g′ _. only-phase z ls ls′ g l g′ k stood) }
+        grid = λ at cs q. grid-kept z at ls ls′ cs (λ g′ l′ a b. stood-lane at q g′ l′ a b) (λ g′ _. only-phase z ls ls′ g l g′ k stood);
+      }

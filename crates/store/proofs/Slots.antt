@@ -54,9 +54,9 @@ pub lane-same : (z : Sizes) (at : ℕ → Body) (ls ls′ : List ℕ) (g l : ℕ
 unfolding lane-at own-of line-at
 lane-same z at ls ls′ g l h =
     lane-is z at ls′ g l (lane-at z at ls g l)
-      (upto-same 0 _ _ (z .owns) (λ i k. h (128 + i) (omega arith) (inr (omega arith))))
-      (ap at (h 0 (omega arith) (inl (omega arith))))
-      (ap (λ n. eqb n 1) (h 1 (omega arith) (inl (omega arith))))
+    (upto-same 0 _ _ (z .owns) (λ i k. h (128 + i) (omega arith) (inr (omega arith))))
+    (ap at (h 0 (omega arith) (inl (omega arith))))
+    (ap (λ n. eqb n 1) (h 1 (omega arith) (inl (omega arith))))
 
 pub own-same : (z : Sizes) (ls ls′ : List ℕ) (g l : ℕ) → ((s : ℕ) → s < slots z → (s < 2) ⊎ (128 ≤ s) → slot-of z ls′ g s l ≡ slot-of z ls g s l) →
     own-of z ls′ g l ≡ own-of z ls g l
@@ -74,9 +74,9 @@ module _ (z : Sizes) (at : ℕ → Body) (g l : ℕ) (hg : g < z .groups) (hl : 
   unfolding lane-at own-of line-at
   lane-line i =
       lane-is z at (set ls (place-of z g 0 l) i) g l (goes-to (lane-at z at ls g l) (at i))
-        (upto-same 0 _ _ (z .owns) (λ j h. slot-other z g 0 l (omega arith) hl ls i g (128 + j) l (omega arith) hl (λ _ e _. omega arith)))
-        (ap at (slot-same z g 0 l (omega arith) hl ls i hg fit))
-        (ap (λ n. eqb n 1) (slot-other z g 0 l (omega arith) hl ls i g 1 l (omega arith) hl (λ _ e _. omega arith)))
+      (upto-same 0 _ _ (z .owns) (λ j h. slot-other z g 0 l (omega arith) hl ls i g (128 + j) l (omega arith) hl (λ _ e _. omega arith)))
+      (ap at (slot-same z g 0 l (omega arith) hl ls i hg fit))
+      (ap (λ n. eqb n 1) (slot-other z g 0 l (omega arith) hl ls i g 1 l (omega arith) hl (λ _ e _. omega arith)))
 
   -- an own number is written
   pub lane-own : (j v : ℕ) → j < z .owns → lane-at z at (set ls (place-of z g (128 + j) l) v) g l ≡ with-own (lane-at z at ls g l) j v
@@ -84,19 +84,19 @@ module _ (z : Sizes) (at : ℕ → Body) (g l : ℕ) (hg : g < z .groups) (hl : 
   lane-own j v hj =
       let hs : 128 + j < slots z = omega arith in
       lane-is z at (set ls (place-of z g (128 + j) l) v) g l (with-own (lane-at z at ls g l) j v)
-        (upto-set 0 _ _ (z .owns) j v (slot-same z g (128 + j) l hs hl ls v hg fit)
-          (λ i h ne. slot-other z g (128 + j) l hs hl ls v g (128 + i) l (omega arith) hl (λ _ e _. ne (omega arith))))
-        (ap at (slot-other z g (128 + j) l hs hl ls v g 0 l (omega arith) hl (λ _ e _. omega arith)))
-        (ap (λ n. eqb n 1) (slot-other z g (128 + j) l hs hl ls v g 1 l (omega arith) hl (λ _ e _. omega arith)))
+      (upto-set 0 _ _ (z .owns) j v (slot-same z g (128 + j) l hs hl ls v hg fit)
+      (λ i h ne. slot-other z g (128 + j) l hs hl ls v g (128 + i) l (omega arith) hl (λ _ e _. ne (omega arith))))
+      (ap at (slot-other z g (128 + j) l hs hl ls v g 0 l (omega arith) hl (λ _ e _. omega arith)))
+      (ap (λ n. eqb n 1) (slot-other z g (128 + j) l hs hl ls v g 1 l (omega arith) hl (λ _ e _. omega arith)))
 
   -- it is marked as wrong
   pub lane-wrong : lane-at z at (set ls (place-of z g 1 l) 1) g l ≡ record { own = lane-at z at ls g l .own; left = lane-at z at ls g l .left; wrong = true }
   unfolding lane-at own-of line-at
   lane-wrong =
       lane-is z at (set ls (place-of z g 1 l) 1) g l (record { own = lane-at z at ls g l .own; left = lane-at z at ls g l .left; wrong = true })
-        (upto-same 0 _ _ (z .owns) (λ j h. slot-other z g 1 l (omega arith) hl ls 1 g (128 + j) l (omega arith) hl (λ _ e _. omega arith)))
-        (ap at (slot-other z g 1 l (omega arith) hl ls 1 g 0 l (omega arith) hl (λ _ e _. omega arith)))
-        (ap (λ n. eqb n 1) (slot-same z g 1 l (omega arith) hl ls 1 hg fit))
+      (upto-same 0 _ _ (z .owns) (λ j h. slot-other z g 1 l (omega arith) hl ls 1 g (128 + j) l (omega arith) hl (λ _ e _. omega arith)))
+      (ap at (slot-other z g 1 l (omega arith) hl ls 1 g 0 l (omega arith) hl (λ _ e _. omega arith)))
+      (ap (λ n. eqb n 1) (slot-same z g 1 l (omega arith) hl ls 1 hg fit))
 
 -- only one lane changes
 pub only-none : (z : Sizes) (g l : ℕ) (ls : List ℕ) → Only z g l ls ls
@@ -104,16 +104,22 @@ only-none z g l ls = record { others = λ _ _ _ _ _ _. refl; words = λ _ _ _ _ 
 
 pub only-both : (z : Sizes) (g l : ℕ) (ls ls′ ls″ : List ℕ) → Only z g l ls ls′ → Only z g l ls′ ls″ → Only z g l ls ls″
 only-both z g l ls ls′ ls″ p q =
-    record { others = λ g′ s l′ hs hl ne. q .others g′ s l′ hs hl ne ∙ p .others g′ s l′ hs hl ne;
-      words = λ g′ s l′ h2 hs hl. q .words g′ s l′ h2 hs hl ∙ p .words g′ s l′ h2 hs hl }
+    record {
+      others = λ g′ s l′ hs hl ne. q .others g′ s l′ hs hl ne ∙ p .others g′ s l′ hs hl ne;
+      words = λ g′ s l′ h2 hs hl. q .words g′ s l′ h2 hs hl ∙ p .words g′ s l′ h2 hs hl;
+    }
 
 pub only-slot : (z : Sizes) (g s l : ℕ) (ls ls′ : List ℕ) (v : ℕ) → s < slots z → (s < 2) ⊎ (128 ≤ s) → l < z .lanes → ls′ ≡ set ls (place-of z g s l) v → Only z g l ls ls′
 only-slot z g s l ls ls′ v hs (inl two) hl e =
-    record { others = λ g′ s′ l′ hs′ hl′ ne. rw e (slot-other z g s l hs hl ls v g′ s′ l′ hs′ hl′ (λ a _ b. ne a b));
-      words = λ g′ s′ l′ h2 h hl′. rw e (slot-other z g s l hs hl ls v g′ s′ l′ (omega arith) hl′ (λ _ a _. omega arith)) }
+    record {
+      others = λ g′ s′ l′ hs′ hl′ ne. rw e (slot-other z g s l hs hl ls v g′ s′ l′ hs′ hl′ (λ a _ b. ne a b));
+      words = λ g′ s′ l′ h2 h hl′. rw e (slot-other z g s l hs hl ls v g′ s′ l′ (omega arith) hl′ (λ _ a _. omega arith));
+    }
 only-slot z g s l ls ls′ v hs (inr own) hl e =
-    record { others = λ g′ s′ l′ hs′ hl′ ne. rw e (slot-other z g s l hs hl ls v g′ s′ l′ hs′ hl′ (λ a _ b. ne a b));
-      words = λ g′ s′ l′ h2 h hl′. rw e (slot-other z g s l hs hl ls v g′ s′ l′ (omega arith) hl′ (λ _ a _. omega arith)) }
+    record {
+      others = λ g′ s′ l′ hs′ hl′ ne. rw e (slot-other z g s l hs hl ls v g′ s′ l′ hs′ hl′ (λ a _ b. ne a b));
+      words = λ g′ s′ l′ h2 h hl′. rw e (slot-other z g s l hs hl ls v g′ s′ l′ (omega arith) hl′ (λ _ a _. omega arith));
+    }
 
 -- lines stay lines
 module _ (z : Sizes) (g l lines : ℕ) (hl : l < z .lanes) (ls : List ℕ) where

@@ -83,11 +83,13 @@ module _ (z : Sizes) (at : ℕ → Body) (ls cs : List ℕ) (g l : ℕ) (lent : 
       Turned z at ls cs ls′ cs′ g l r
   unfolding lane-at
   turned ls′ cs′ r a steps did only this mem told wrong right =
-      record { could = can-step z at ls cs g l hg hl steps;
+      record {
+        could = can-step z at ls cs g l hg hl steps;
         grid = turn-is z at ls cs ls′ cs′ g l (lent .sized) hg hl only a steps did this mem;
         touch = rw told (marks-are z at ls cs ls′ cs′ g l (lent .sized) hg hl only a steps did);
         wrong = λ e. ap (λ (x : Lane). x .wrong) this ∙ wrong e;
-        right = λ e. ap (λ (x : Lane). x .wrong) this ∙ right e }
+        right = λ e. ap (λ (x : Lane). x .wrong) this ∙ right e;
+      }
 
   only-line : (ls′ : List ℕ) (i : ℕ) → ls′ ≡ set ls (place-of z g 0 l) i → Only z g l ls ls′
   only-line ls′ i e = only-slot z g 0 l ls ls′ i (omega arith) (inl (omega arith)) hl e
@@ -116,7 +118,7 @@ module _ (z : Sizes) (at : ℕ → Body) (ls cs : List ℕ) (g l : ℕ) (lent : 
   turned-put ls′ k i c v hk (e, does, ec) el =
       let steps : stepping here ≡ true = rw does refl in
       turned ls′ cs Quiet (quiet (with-own (goes-to it (at i)) k c)) steps (act-put (z .lanes) l g (z .field) (z .shared) it k e (at i) does ∙ rw ec refl)
-        (only-twice z ls cs g l lent hg hl ls′ (128 + k) c i (omega arith) (inr (omega arith)) el) (put-lane ls′ k c i hk el) refl refl (λ x. absurd (false≢true x)) (λ _. refl)
+      (only-twice z ls cs g l lent hg hl ls′ (128 + k) c i (omega arith) (inr (omega arith)) el) (put-lane ls′ k c i hk el) refl refl (λ x. absurd (false≢true x)) (λ _. refl)
 
   -- a cell that is there, and one that isn't
   there : (f : Bool) (c : ℕ) (a : Act) → c < size z (whose f g) → if-there c (size z (whose f g)) it a ≡ a
@@ -150,8 +152,8 @@ module _ (z : Sizes) (at : ℕ → Body) (ls cs : List ℕ) (g l : ℕ) (lent : 
   turned-read ls′ f k i c v x r hk hc ex el told well ready =
       let d = read-does f k i c v ready in
       turned ls′ cs r (reads (whose f g) c k (goes-to it (at i))) (d .0) (d .1 ∙ there f c _ hc)
-        (only-twice z ls cs g l lent hg hl ls′ (128 + k) x i (omega arith) (inr (omega arith)) el) (rw (cells-at z cs (whose f g) c (whose-le f g _ hg) hc, ← ex) (put-lane ls′ k x i hk el)) refl told
-        (λ e. absurd (both-ways _ well e)) (λ _. refl)
+      (only-twice z ls cs g l lent hg hl ls′ (128 + k) x i (omega arith) (inr (omega arith)) el) (rw (cells-at z cs (whose f g) c (whose-le f g _ hg) hc, ← ex) (put-lane ls′ k x i hk el)) refl told
+      (λ e. absurd (both-ways _ well e)) (λ _. refl)
 
   pub turned-write : (ls′ cs′ : List ℕ) (f : Bool) (i c v : ℕ) (r : Deed) → c < size z (whose f g) → cs′ ≡ set cs (base z (whose f g) + c) v → ls′ ≡ set ls (place-of z g 0 l) i →
       touches-of r ≡ record { where-is = whose f g; cell = c; wrote = true } ∷ [] → went-wrong r ≡ false → Ready z at ls g l (Write f i) c v → Turned z at ls cs ls′ cs′ g l r
@@ -159,7 +161,7 @@ module _ (z : Sizes) (at : ℕ → Body) (ls cs : List ℕ) (g l : ℕ) (lent : 
   turned-write ls′ cs′ f i c v r hc em el told well ready =
       let d = write-does f i c v ready in
       turned ls′ cs′ r (writes (whose f g) c v (goes-to it (at i))) (d .0) (d .1 ∙ there f c _ hc) (only-line ls′ i el) (line-lane ls′ i el)
-        (rw em (memory-store z cs (whose f g) c v (whose-le f g _ hg) hc (lent .cells-fit))) told (λ e. absurd (both-ways _ well e)) (λ _. refl)
+      (rw em (memory-store z cs (whose f g) c v (whose-le f g _ hg) hc (lent .cells-fit))) told (λ e. absurd (both-ways _ well e)) (λ _. refl)
 
   pub turned-branch : (ls′ : List ℕ) (y n c v i : ℕ) → i ≡ cond (eqb c 0) n y → ls′ ≡ set ls (place-of z g 0 l) i → Ready z at ls g l (Branch y n) c v → Turned z at ls cs ls′ cs g l Quiet
   unfolding lane-of touched after lane-at

@@ -33,7 +33,7 @@ module _ {A : Type 0} (d : A) where
   pub upto-set : (f h : ℕ → A) (n i : ℕ) (v : A) → h i ≡ v → ((j : ℕ) → j < n → j ≢ i → h j ≡ f j) → upto h n ≡ set (upto f n) i v
   upto-set f h n i v here else =
       sym (upto-is d h n (set (upto f n) i v) (length-set (upto f n) i v ∙ upto-length f n)
-        (λ k l. by k l (cases-eq k i)))
+      (λ k l. by k l (cases-eq k i)))
     where
       by : (k : ℕ) → k < n → (k ≡ i) ⊎ (k ≡ i → ⊥) → getD (set (upto f n) i v) k d ≡ h k
       by k l (inl e) = let m : i < length (upto f n) = rw upto-length (rw e at l) in rw e (getD-set-same (upto f n) i v d m ∙ sym here)

@@ -107,6 +107,6 @@ pub record Released (z : Sizes) (g : ℕ) (ls cs ls′ : List ℕ) : Type 0 wher
   pub phase : phase-of z ls′ g ≡ phase-of z ls g + 1
   pub lined : (most : ℕ) → ((l : ℕ) → l < z .lanes → line-at z ls g l + 1 < most) → Lined z most ls → Lined z most ls′
   pub could : (at : ℕ → Body) → ((l : ℕ) → l < z .lanes → at (line-at z ls g l) ≡ barrier (at (line-at z ls g l + 1))) →
-    can (z .lanes) (grid-of z at ls cs) (release g) ≡ true
+      can (z .lanes) (grid-of z at ls cs) (release g) ≡ true
   pub grid : (at : ℕ → Body) → ((l : ℕ) → l < z .lanes → at (line-at z ls g l) ≡ barrier (at (line-at z ls g l + 1))) →
-    grid-of z at ls′ cs ≡ turn (z .lanes) (grid-of z at ls cs) (release g)
+      grid-of z at ls′ cs ≡ turn (z .lanes) (grid-of z at ls cs) (release g)

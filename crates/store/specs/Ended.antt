@@ -25,7 +25,7 @@ pub record Alike (z : Sizes) (at : ℕ → Body) (ls ls′ : List ℕ) : Type 0 
   pub wrongs : (g l : ℕ) → g < z .groups → l < z .lanes → slot-of z ls′ g 1 l ≡ slot-of z ls g 1 l
   pub phases : (g : ℕ) → g < z .groups → phase-of z ls′ g ≡ phase-of z ls g
   pub owns : (g k l : ℕ) → g < z .groups → k < z .owns → l < z .lanes → (ended (at (line-at z ls g l)) ≡ true → ⊥) →
-    slot-of z ls′ g (128 + k) l ≡ slot-of z ls g (128 + k) l
+      slot-of z ls′ g (128 + k) l ≡ slot-of z ls g (128 + k) l
 
 -- Then every row of turns has the same touches, as many steps, and leaves the same grid but for own numbers of lanes that have ended:
 -- the same cells, lines, phases and wrong lanes.

@@ -7,7 +7,6 @@ use crate::words::go_wrong;
 use crate::words::put_own;
 use crate::words::spot;
 use crate::words::stand;
-
 ghost use mathlib.Core.Path.{_≡_};
 ghost use mathlib.Core.Bool.{cond};
 ghost use Prim.Native.Nat.{ℕ, _+_, _<_, _≤_};
@@ -32,7 +31,17 @@ fn chosen(c: u32, yes: u32, no: u32) -> u32
 
 // Lane l of group g does what it has to do next, with the numbers that were worked out: c is what is put, or the cell, or the
 // condition; v is what is written. A lane that goes wrong then stands at `stop`.
-pub fn perform(z: Sizes, lanes: &mut [u32], cells: &mut [u32], g: usize, l: usize, stop: u32, todo: Todo, c: u32, v: u32) -> Deed
+pub fn perform(
+    z: Sizes,
+    lanes: &mut [u32],
+    cells: &mut [u32],
+    g: usize,
+    l: usize,
+    stop: u32,
+    todo: Todo,
+    c: u32,
+    v: u32,
+) -> Deed
     requires lent { ⌜ Lent z (now lanes) (now cells) ⌝ }
     requires group { ⌜ g < z .groups ⌝ }
     requires lane { ⌜ l < z .lanes ⌝ }
@@ -50,7 +59,12 @@ pub fn perform(z: Sizes, lanes: &mut [u32], cells: &mut [u32], g: usize, l: usiz
                 return Deed::Wrong;
             };
             put_own(z, lanes, g, l, own, cells[i], next);
-            Deed::Touched(Seen { place: owner(field, g), cell: c, wrote: false, index: i })
+            Deed::Touched(Seen {
+                place: owner(field, g),
+                cell: c,
+                wrote: false,
+                index: i,
+            })
         }
         Todo::Write { field, next } => {
             let Some(i) = spot(z, field, g, c) else {
@@ -59,7 +73,12 @@ pub fn perform(z: Sizes, lanes: &mut [u32], cells: &mut [u32], g: usize, l: usiz
             };
             cells[i] = v;
             stand(z, lanes, g, l, next);
-            Deed::Touched(Seen { place: owner(field, g), cell: c, wrote: true, index: i })
+            Deed::Touched(Seen {
+                place: owner(field, g),
+                cell: c,
+                wrote: true,
+                index: i,
+            })
         }
         Todo::Branch { yes, no } => {
             stand(z, lanes, g, l, chosen(c, yes, no));

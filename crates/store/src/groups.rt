@@ -3,7 +3,6 @@ use crate::Sizes;
 use crate::words::line_of;
 use crate::words::place;
 use crate::words::stand;
-
 ghost use mathlib.Core.Path.{_≡_};
 ghost use Prim.Native.Nat.{ℕ, _+_, _<_, _≤_};
 ghost use lib.ListN.{length};

@@ -12,14 +12,13 @@ pub use groups::phase_of;
 pub use groups::put_word;
 pub use groups::word_of;
 pub use words::go_wrong;
+pub use words::is_wrong;
 pub use words::line_of;
 pub use words::own_of;
 pub use words::place;
 pub use words::put_own;
 pub use words::spot;
 pub use words::stand;
-pub use words::is_wrong;
-
 ghost use Rattle.store.specs.Ended.{Ended-free};
 
 // How many groups, lanes in a group, own numbers of a lane, cells of a group, cells of the field.

@@ -1,6 +1,5 @@
 // The words of a lane and the places of cells. Each function reads or writes one place, or two.
 use crate::Sizes;
-
 ghost use mathlib.Core.Path.{_≡_};
 ghost use mathlib.Core.Bool.{Bool, true};
 ghost use mathlib.Core.List.{List};
@@ -31,7 +30,11 @@ pub fn spot(z: Sizes, field: bool, g: usize, c: u32) -> Option<usize>
     ensures { λ r. ⌜ BySome r (size z (whose field g) ≤ c) (λ i. (i ≡ base z (whose field g) + c) × (c < size z (whose field g)) × (i < cells-room z)) ⌝ }
 {
     if field {
-        if (c as usize) < z.field { Some(z.groups * z.shared + c as usize) } else { None }
+        if (c as usize) < z.field {
+            Some(z.groups * z.shared + c as usize)
+        } else {
+            None
+        }
     } else if (c as usize) < z.shared {
         Some(g * z.shared + c as usize)
     } else {

@@ -2,7 +2,13 @@
 // so that the compiler takes several numbers at a time.
 ghost use Rattle.values.specs.Ops.{Applied};
 use crate::ops::Op;
-use crate::ops::{difference, less, product, quotient, remainder, same, sum};
+use crate::ops::difference;
+use crate::ops::less;
+use crate::ops::product;
+use crate::ops::quotient;
+use crate::ops::remainder;
+use crate::ops::same;
+use crate::ops::sum;
 
 fn sums(x: &mut [u32], y: &[u32])
     ensures { λ _. ⌜ Applied Op.Plus (now (x .entry)) (now (y .entry)) (now (x .exit)) ⌝ }

@@ -57,7 +57,7 @@ module _ (find : List ℕ → ℕ) (N : ℕ → List ℕ → Type 0) (is-name : 
   else-part : (List ℕ → Body × List ℕ) → (Body → Body → Body) → List ℕ → Body × List ℕ
   else-part go mk t =
       cond (same-bytes (codes "else") (front word-byte t)) (mk (go (drop 5 t) .0) (go (drop 4 (go (drop 5 t) .1)) .0), go (drop 4 (go (drop 5 t) .1)) .1)
-        (mk end (go (drop 4 t) .0), go (drop 4 t) .1)
+      (mk end (go (drop 4 t) .0), go (drop 4 t) .1)
 
   if-part : ℕ → (List ℕ → Body × List ℕ) → List ℕ → Body × List ℕ
   if-part n go t = else-part go (when (parsed find n t .0) (go (drop 1 (parsed find n t .1)) .0)) (go (drop 1 (parsed find n t .1)) .1)
@@ -70,14 +70,14 @@ module _ (find : List ℕ → ℕ) (N : ℕ → List ℕ → Type 0) (is-name : 
   name-part : ℕ → (List ℕ → Body × List ℕ) → ℕ → List ℕ → Body × List ℕ
   name-part n go k t =
       cond (same-bytes (codes "cell") (front word-byte t)) (one-line n go (read-shared k) (drop 5 t))
-        (cond (same-bytes (codes "field") (front word-byte t)) (one-line n go (read-all k) (drop 6 t)) (one-line n go (put k) t))
+      (cond (same-bytes (codes "field") (front word-byte t)) (one-line n go (read-all k) (drop 6 t)) (one-line n go (put k) t))
 
   by-word : ℕ → (List ℕ → Body × List ℕ) → List ℕ → List ℕ → Body × List ℕ
   by-word n go w t =
       cond (same-bytes (codes "cell") w) (two-line n go write-shared (drop 1 t))
-        (cond (same-bytes (codes "field") w) (two-line n go write-all (drop 1 t))
-          (cond (same-bytes (codes "barrier") w) (barrier (go (drop 1 t) .0), go (drop 1 t) .1)
-            (cond (same-bytes (codes "if") w) (if-part n go (drop 1 t)) (cond (same-bytes (codes "while") w) (while-part n go (drop 1 t)) (name-part n go (find w) (drop 3 t))))))
+      (cond (same-bytes (codes "field") w) (two-line n go write-all (drop 1 t))
+      (cond (same-bytes (codes "barrier") w) (barrier (go (drop 1 t) .0), go (drop 1 t) .1)
+      (cond (same-bytes (codes "if") w) (if-part n go (drop 1 t)) (cond (same-bytes (codes "while") w) (while-part n go (drop 1 t)) (name-part n go (find w) (drop 3 t))))))
 
   pub body-of : ℕ → List ℕ → Body × List ℕ
   body-of zero t = (end, t)

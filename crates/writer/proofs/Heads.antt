@@ -135,7 +135,6 @@ module _ (ns : List (List ℕ)) (p : Program) (text : List ℕ) (s : Spelled (Na
   cells-read : cells-of (s .cells-part ++ s .body-part) ≡ (p .shared, s .body-part)
   cells-read = cells-back (p .shared) (s .cells-part) (s .body-part) (s .cells-line) lead
 
-
 names-same : (ns ms : List (List ℕ)) (p q : Program) (text : List ℕ) → Spelled (Named ns) ns p text → Spelled (Named ms) ms q text → ns ≡ ms
 names-same ns ms p q text s t = ap (λ (x : List (List ℕ) × List ℕ). x .0) (sym (own-read ns p text s (suc (length ns + length ms)) (omega arith)) ∙ own-read ms q text t (suc (length ns + length ms)) (omega arith))
 
@@ -146,7 +145,7 @@ one-same : (ns : List (List ℕ)) (p q : Program) (text : List ℕ) → Distinct
 unfolding same-bytes
 one-same ns p q text d s t =
     let rest : s .cells-part ++ s .body-part ≡ t .cells-part ++ t .body-part =
-      ap (λ (x : List (List ℕ) × List ℕ). x .1) (sym (own-read ns p text s (suc (length ns)) (omega arith)) ∙ own-read ns q text t (suc (length ns)) (omega arith)) in
+    ap (λ (x : List (List ℕ) × List ℕ). x .1) (sym (own-read ns p text s (suc (length ns)) (omega arith)) ∙ own-read ns q text t (suc (length ns)) (omega arith)) in
     let cells : (p .shared, s .body-part) ≡ (q .shared, t .body-part) = sym (cells-read ns p text s) ∙ (ap cells-of rest ∙ cells-read ns q text t) in
     let bodies : s .body-part ≡ t .body-part = ap (λ (x : ℕ × List ℕ). x .1) cells in
     let n : ℕ = body-height (p .body) + body-height (q .body) in

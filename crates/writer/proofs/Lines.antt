@@ -174,17 +174,19 @@ shrunk-anew ns p text c f s =
 pub anew : Anew
 anew ns p text t =
     let s = t .spelled in
-    let r = shrunk-anew ns p text (t .few-cells) (t .fits) s in
-    (record {
-      spelled = spelt ns p (s .names) (s .owned) (t .few-cells) (t .fits);
-      distinct = t .distinct;
-      few-names = t .few-names;
-      few-cells = t .few-cells;
-      fits = t .fits;
-      few-lines = omega (arith, r .fewer, t .few-lines);
-      short = r .within 1024 (t .short);
-      shallow = t .shallow;
-    }, r)
+    let r = shrunk-anew ns p text (t .few-cells) (t .fits) s in (
+      record {
+        spelled = spelt ns p (s .names) (s .owned) (t .few-cells) (t .fits);
+        distinct = t .distinct;
+        few-names = t .few-names;
+        few-cells = t .few-cells;
+        fits = t .fits;
+        few-lines = omega (arith, r .fewer, t .few-lines);
+        short = r .within 1024 (t .short);
+        shallow = t .shallow;
+      },
+      r,
+    )
 
 pub every-program : Every-program
 every-program p b = record {

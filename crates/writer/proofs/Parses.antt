@@ -71,7 +71,6 @@ height (rest-of e f) = suc (height e + height f)
 height (less e f) = suc (height e + height f)
 height (same e f) = suc (height e + height f)
 
-
 no-bracket : (b : ℕ) → word-byte b ≡ true → eqb b 40 ≡ false
 no-bracket b e = grind (arith, tells)
 
@@ -132,7 +131,7 @@ module _ (find : List ℕ → ℕ) where
   unfoldable pub leaf-of : List ℕ → Expr
   leaf-of w =
       cond (digit (getD w 0 0)) (fixed (decimal 0 w))
-        (cond (same-bytes (codes "lane") w) lane (cond (same-bytes (codes "group") w) group (cond (same-bytes (codes "lanes") w) lanes (var (find w)))))
+      (cond (same-bytes (codes "lane") w) lane (cond (same-bytes (codes "group") w) group (cond (same-bytes (codes "lanes") w) lanes (var (find w)))))
 
   abbrev joined-to : (Expr × List ℕ) → (Expr × List ℕ) → Expr × List ℕ
   joined-to p q = (made (getD (p .1) 1 0) (p .0) (q .0), drop 1 (q .1))

@@ -72,8 +72,8 @@ unfolding lines-in
 shrinks-line u u′ t t′ e e′ h p = record {
   fewer = rw (lines-append u (10 ∷ t), lines-append u′ (10 ∷ t′), lines-plain u e, lines-plain u′ e′) (omega (arith, p .fewer));
   short = λ m w w′ f s.
-    let r = short-out m 0 u (t ++ w) e (rw (append-assoc u (10 ∷ t) w) at s) (omega arith) in
-    rw (append-assoc u′ (10 ∷ t′) w′) (short-in m 0 u′ (t′ ++ w′) e′ (omega (arith, r .0)) (p .short m w w′ f (r .1)));
+      let r = short-out m 0 u (t ++ w) e (rw (append-assoc u (10 ∷ t) w) at s) (omega arith) in
+      rw (append-assoc u′ (10 ∷ t′) w′) (short-in m 0 u′ (t′ ++ w′) e′ (omega (arith, r .0)) (p .short m w w′ f (r .1)));
 }
 
 -- a line that is left out

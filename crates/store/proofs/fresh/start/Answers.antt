@@ -16,7 +16,7 @@ returns c =
     let e : length (c .clear .last .s) ≡ c .room-of .result = simp (kept, length-take) (omega arith) in
     let e-2 : length (c .clear-2 .last .s) ≡ c .args .z .groups * c .args .z .shared = simp (kept-2, length-take) (omega arith) in
     started (c .args .z) (c .pre .sized) (c .args .cells .now) _ _
-      (λ i h. front-clear (c .room-of .result) (c .clear .last .s) (c .args .lanes .now) e (c .clear .ensures) i (rw (c .room-of .ensures) h))
-      (front-clear (c .args .z .groups * c .args .z .shared) (c .clear-2 .last .s) (c .args .cells .now) e-2 (c .clear-2 .ensures))
-      (rest-kept (c .args .z .groups * c .args .z .shared) (c .clear-2 .last .s) (c .args .cells .now) e-2)
-      (c .args .lanes .now)
+    (λ i h. front-clear (c .room-of .result) (c .clear .last .s) (c .args .lanes .now) e (c .clear .ensures) i (rw (c .room-of .ensures) h))
+    (front-clear (c .args .z .groups * c .args .z .shared) (c .clear-2 .last .s) (c .args .cells .now) e-2 (c .clear-2 .ensures))
+    (rest-kept (c .args .z .groups * c .args .z .shared) (c .clear-2 .last .s) (c .args .cells .now) e-2)
+    (c .args .lanes .now)

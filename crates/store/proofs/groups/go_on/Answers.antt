@@ -23,12 +23,16 @@ pub loop-l-again : need.loop-l-again
 loop-l-again c =
     let fit : room (c .args .z) ≤ length (c .loop-l .lanes) = omega (arith, c .pre .fit, c .loop-l .kept .lanes) in
     further-more (c .args .z) (c .args .g) (c .loop-l .l) (c .line-of-line .result) (c .args .lanes .now) (c .loop-l .lanes) (c .stand .last .lanes) (c .pre .group) (c .loop-l-test .taken) fit
-      (c .line-of-line .ensures) (c .stand .ensures .is) (c .loop-l .inv)
+    (c .line-of-line .ensures) (c .stand .ensures .is) (c .loop-l .inv)
 
 pub raise-phase-requires : need.raise-phase-requires
 raise-phase-requires c κs =
-    record { sized = c .pre .sized; fit = omega (arith, c .pre .fit, c .loop-l .kept .lanes); group = c .pre .group;
-      phase = rw (further-phase (c .args .z) (c .args .g) (c .loop-l .l) (c .args .lanes .now) (c .loop-l .lanes) (c .pre .sized) (c .loop-l .inv)) (c .pre .phase) }
+    record {
+      sized = c .pre .sized;
+      fit = omega (arith, c .pre .fit, c .loop-l .kept .lanes);
+      group = c .pre .group;
+      phase = rw (further-phase (c .args .z) (c .args .g) (c .loop-l .l) (c .args .lanes .now) (c .loop-l .lanes) (c .pre .sized) (c .loop-l .inv)) (c .pre .phase);
+    }
 
 pub returns : need.returns
 returns c =

@@ -134,8 +134,8 @@ behind-barrier =
           (record { by-group = 0; by-lane = 1; phase = 1; touch = record { where-is = 1; cell = 0; wrote = true } });
     }
 
--- own a; field 0 = (4294967295 + 1); field 1 = (0 - 1); field 2 = (65536 * 65537); field 3 = (7 / 2); field 4 = (7 / 0); field 5 = (7 % 0);
--- field 6 = (2 < 2); field 7 = (2 == 2); field 8 = a; with one lane.
+-- own a; cells 1; field 0 = (4294967295 + 1); field 1 = (0 - 1); field 2 = (65536 * 65537); field 3 = (7 / 2); field 4 = (7 / 0);
+-- field 5 = (7 % 0); field 6 = (2 < 2); field 7 = (2 == 2); field 8 = a; a = cell 0; field 9 = a; with one lane: own numbers and cells begin as 0.
 abbrev pub numbers : Row
 numbers =
     record {
@@ -148,16 +148,18 @@ numbers =
             (write-all (fixed 5) (rest-of (fixed 7) (fixed 0))
             (write-all (fixed 6) (less (fixed 2) (fixed 2))
             (write-all (fixed 7) (same (fixed 2) (fixed 2))
-            (write-all (fixed 8) (var 0) end))))))));
+            (write-all (fixed 8) (var 0)
+            (read-shared 0 (fixed 0)
+            (write-all (fixed 9) (var 0) end))))))))));
         owns = 1;
-        shared = 0;
+        shared = 1;
       };
       groups = 1;
       lanes = 1;
-      field = 9 ∷ 9 ∷ 9 ∷ 9 ∷ 9 ∷ 9 ∷ 9 ∷ 9 ∷ 9 ∷ [];
-      granted = 9;
-      order = of 0 0 ∷ of 0 0 ∷ of 0 0 ∷ of 0 0 ∷ of 0 0 ∷ of 0 0 ∷ of 0 0 ∷ of 0 0 ∷ of 0 0 ∷ [];
-      told = cells (0 ∷ 4294967295 ∷ 65536 ∷ 3 ∷ 0 ∷ 0 ∷ 0 ∷ 1 ∷ 0 ∷ []);
+      field = 9 ∷ 9 ∷ 9 ∷ 9 ∷ 9 ∷ 9 ∷ 9 ∷ 9 ∷ 9 ∷ 9 ∷ [];
+      granted = 11;
+      order = of 0 0 ∷ of 0 0 ∷ of 0 0 ∷ of 0 0 ∷ of 0 0 ∷ of 0 0 ∷ of 0 0 ∷ of 0 0 ∷ of 0 0 ∷ of 0 0 ∷ of 0 0 ∷ [];
+      told = cells (0 ∷ 4294967295 ∷ 65536 ∷ 3 ∷ 0 ∷ 0 ∷ 0 ∷ 1 ∷ 0 ∷ 0 ∷ []);
     }
 
 -- own a; if lane; a = 5; else; a = 6; end; field lane = a; while (a < 8); a = (a + 1); end; field (lane + 2) = a, with 2 lanes:

@@ -74,7 +74,7 @@ front-again bs small h =
     rw (sym (four-again bs 12 16 small refl h), sym (eight-again bs 4 12 small refl (omega arith)), sym (two-again bs 2 4 small refl (omega arith)))
     (two-again bs 0 2 small refl (omega arith))
 
-with-range : (n g l s k : ℕ) (h : Header) → read-with n g l s k ≡ Ok h → In-range g l s k
+pub with-range : (n g l s k : ℕ) (h : Header) → read-with n g l s k ≡ Ok h → In-range g l s k
 with-range n g l s k h e =
     record {
       some-group = grind (arith, tells);
@@ -85,7 +85,7 @@ with-range n g l s k h e =
       cells-few = grind (arith, tells);
     }
 
-with-size : (n g l s k : ℕ) (h : Header) → read-with n g l s k ≡ Ok h → n ≡ 16 + 4 * k
+pub with-size : (n g l s k : ℕ) (h : Header) → read-with n g l s k ≡ Ok h → n ≡ 16 + 4 * k
 with-size n g l s k h e = grind (arith, tells)
 
 with-header : (n g l s k : ℕ) (h : Header) → read-with n g l s k ≡ Ok h → record { groups = g; lanes = l; steps = s; cells = k } ≡ h

@@ -4,3 +4,4 @@ pub mod Lines
 pub mod Words
 pub mod Bounds
 pub mod Again
+pub mod Fault

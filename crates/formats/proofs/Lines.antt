@@ -6,6 +6,8 @@ use native.Mathlib.Omega.{arith}
 use native.Mathlib.Nat.{add-assoc, add-zero}
 use lib.ListN.{length, take, getD}
 use Rattle.std.proofs.shelf.Lists.{append-assoc, append-nil, take-more, length-take-le}
+use Rattle.formats.specs.Bytes.{four-bytes}
+use Rattle.formats.specs.Field.{cells-bytes}
 use Rattle.formats.specs.Hex.{hex-eight}
 use Rattle.formats.specs.Wrote.{Wrote}
 use Rattle.formats.specs.Printed.{byte-behind, lines-from}
@@ -31,3 +33,19 @@ lines-step b m a at k to cs i x h l e p q =
     let z : i ≡ 0 + length (take i cs) = omega (arith, length-take-le i cs (omega arith)) in
     wrote-both b m a at k to _ _ _ h p q
     (rw (take-more cs i 0 l, e) (sym (lines-more (length cs) 0 i (take i cs) (getD cs i 0) z)))
+
+-- The same for the cells of a field's bytes.
+cells-more : (cs : List ℕ) (c : ℕ) → cells-bytes (cs ++ (c ∷ [])) ≡ cells-bytes cs ++ four-bytes c
+unfolding cells-bytes
+cells-more [] c = append-nil (four-bytes c)
+cells-more (d ∷ cs) c = ap (λ (x : List ℕ). four-bytes d ++ x) (cells-more cs c) ∙ sym (append-assoc (four-bytes d) (cells-bytes cs) (four-bytes c))
+
+pub bytes-none : (b : List ℕ) (at : ℕ) → Wrote b b at at (cells-bytes [])
+unfolding cells-bytes
+bytes-none b at = wrote-none b at
+
+pub bytes-step : (b m a : List ℕ) (at k to : ℕ) (cs : List ℕ) (i : ℕ) → at ≤ length b → i < length cs
+    → Wrote b m at k (cells-bytes (take i cs)) → Wrote m a k to (four-bytes (getD cs i 0)) → Wrote b a at to (cells-bytes (take (i + 1) cs))
+bytes-step b m a at k to cs i h l p q =
+    wrote-both b m a at k to (cells-bytes (take i cs)) (four-bytes (getD cs i 0)) (cells-bytes (take (i + 1) cs)) h p q
+    (rw (take-more cs i 0 l) (sym (cells-more (take i cs) (getD cs i 0))))

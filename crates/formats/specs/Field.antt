@@ -1,9 +1,9 @@
 -- A field in bytes: groups and lanes (two each), steps granted (eight), how many cells (four), and each cell (four).
 use mathlib.Core.Path.{_≡_}
-use mathlib.Core.Bool.{cond, _||_}
+use mathlib.Core.Bool.{Bool, true, false, cond, _&&_, _||_}
 use mathlib.Core.List.{List, [], _∷_, _++_, map}
 use Prim.Native.Nat.{ℕ, _+_, _*_, _≤_, _<_}
-use lib.Dec.{ltb}
+use lib.Dec.{ltb, leb, eqb}
 use lib.ListN.{length, getD}
 use Rattle.std.specs.Iters.{counting}
 use Rattle.std.specs.declared.result.Result.{Result}
@@ -74,3 +74,40 @@ Reads-back =
     → ((k : ℕ) → getD cells k 0 < 4294967296)
     → (read-as (field-bytes groups lanes steps cells) ≡ Ok (record { groups = groups; lanes = lanes; steps = steps; cells = length cells }))
     × (cells-read (field-bytes groups lanes steps cells) (length cells) ≡ cells)
+
+-- The faults of `size` bytes, each at its place: a number that is there is out of range, the bytes end before the numbers or before the cells
+-- that they promise, or they go on behind these.
+abbrev pub groups-fault : (size groups at : ℕ) → Bool
+groups-fault size groups at = leb 2 size && ((ltb groups 1 || ltb 1024 groups) && eqb at 0)
+
+abbrev pub lanes-fault : (size lanes at : ℕ) → Bool
+lanes-fault size lanes at = leb 4 size && ((ltb lanes 1 || ltb 1024 lanes) && eqb at 2)
+
+abbrev pub steps-fault : (size steps at : ℕ) → Bool
+steps-fault size steps at = leb 12 size && (ltb 1099511627776 steps && eqb at 4)
+
+abbrev pub count-fault : (size cells at : ℕ) → Bool
+count-fault size cells at = leb 16 size && (ltb 16777216 cells && eqb at 12)
+
+abbrev pub front-cut : (size at : ℕ) → Bool
+front-cut size at = ltb size 16 && eqb at size
+
+abbrev pub cells-cut : (size cells at : ℕ) → Bool
+cells-cut size cells at = leb 16 size && (ltb size (16 + 4 * cells) && eqb at size)
+
+abbrev pub going-on : (size cells at : ℕ) → Bool
+going-on size cells at = leb 16 size && (ltb (16 + 4 * cells) size && eqb at (16 + 4 * cells))
+
+abbrev pub fault-at : (size groups lanes steps cells at : ℕ) → Bool
+fault-at size groups lanes steps cells at =
+    groups-fault size groups at
+    || (lanes-fault size lanes at
+    || (steps-fault size steps at || (count-fault size cells at || (front-cut size at || (cells-cut size cells at || going-on size cells at)))))
+
+-- What is refused is refused at the lowest place with a fault, and with no fault nothing is.
+pub record First-fault : Type 0 where
+  pub there : (size groups lanes steps cells at : ℕ) → read-with size groups lanes steps cells ≡ Err (Field at) → fault-at size groups lanes steps cells at ≡ true
+  pub none-before :
+      (size groups lanes steps cells at k : ℕ) → read-with size groups lanes steps cells ≡ Err (Field at) → k < at → fault-at size groups lanes steps cells k ≡ false
+  pub none-in-a-field :
+      (size groups lanes steps cells k : ℕ) (h : Header) → read-with size groups lanes steps cells ≡ Ok h → fault-at size groups lanes steps cells k ≡ false

@@ -3,7 +3,7 @@ ghost use mathlib.Core.Path.{_≡_};
 ghost use Prim.Native.Nat.{_+_, _*_, _<_, _≤_};
 ghost use lib.ListN.{length};
 ghost use Rattle.formats.specs.Bytes.{two as at-two, four as at-four, eight as at-eight};
-ghost use Rattle.formats.specs.Field.{read-with, read-as, cells-read, Is-field, Reads-back};
+ghost use Rattle.formats.specs.Field.{read-with, read-as, cells-read, Is-field, Reads-back, First-fault};
 ghost use Rattle.std.specs.Vec.{made};
 use crate::refusal::Refusal;
 
@@ -108,6 +108,13 @@ pub fn copy_cells(bytes: &[u8], out: &mut [u32])
 // The bytes of a field in range are read as that field.
 pub fn reads_back_stands() -> u8
     ensures { λ _. ⌜ Reads-back ⌝ }
+{
+    0
+}
+
+// Bytes are refused at the lowest place with a fault.
+pub fn first_fault_stands() -> u8
+    ensures { λ _. ⌜ First-fault ⌝ }
 {
     0
 }

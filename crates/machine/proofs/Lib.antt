@@ -1,3 +1,4 @@
 mod Rows
 mod Marks
 mod Noted
+mod Stances

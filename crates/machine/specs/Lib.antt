@@ -1,2 +1,3 @@
 pub mod Sofar
 pub mod Line
+pub mod Choices

@@ -31,6 +31,14 @@ pub record Ready (z : Sizes) (lines : ℕ) (ls cs ks : List ℕ) : Type 0 where
   pub touches-fit : 6 * cells-room z ≤ length ks
   pub lined : Lined z (suc lines) ls
 
+-- The words of steps do at each entry what is left there, and every lane stands at an entry or behind the last.
+pub record Runs (z : Sizes) (at : ℕ → Body) (steps : List ℕ) (lines : ℕ) (ls : List ℕ) : Type 0 where
+  pub ns : List (List ℕ)
+  pub text : List ℕ
+  pub owns : ℕ
+  pub coded : Coded (Named ns) text owns lines at (step-at steps lines)
+  pub lined : Lined z (suc lines) ls
+
 -- Bit i of a mask is for lane `first` + i.
 abbrev pub on : ℕ → ℕ → Bool
 on mask i = eqb (mask / 2 ^ i % 2) 1

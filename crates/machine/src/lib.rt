@@ -1,3 +1,4 @@
 // The machine: its schedulers name turns, the executor does them, touches are looked at, and what is told is right.
+pub mod look;
 pub mod note;
 pub mod outcome;

@@ -1,3 +1,4 @@
 // What expressions are worth: arithmetic modulo 2^32, and an expression of the text for all lanes of a row at once.
 pub mod ops;
 pub mod rows;
+pub mod leaves;

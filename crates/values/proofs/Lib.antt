@@ -1,2 +1,6 @@
 mod Numbers
 mod Words
+mod Leafs
+mod Spelt
+mod Standing
+mod Bracketed

@@ -1,4 +1,6 @@
 // What expressions are worth: arithmetic modulo 2^32, and an expression of the text for all lanes of a row at once.
-pub mod ops;
-pub mod rows;
+pub mod eval;
 pub mod leaves;
+pub mod ops;
+pub mod row;
+pub mod rows;

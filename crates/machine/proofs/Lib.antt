@@ -2,3 +2,4 @@ mod Rows
 mod Marks
 mod Noted
 mod Stances
+mod Masked

@@ -1,3 +1,4 @@
 pub mod Sofar
 pub mod Line
 pub mod Choices
+pub mod Masks

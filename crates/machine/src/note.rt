@@ -4,7 +4,7 @@ ghost use mathlib.Core.List.{List, [], _∷_, _++_};
 ghost use Prim.Native.Nat.{ℕ, _<_};
 ghost use Rattle.lanes.specs.Syntax.{Body};
 ghost use Rattle.lanes.specs.Grid.{Grid, Turn, of};
-ghost use Rattle.machine.specs.Sofar.{After, Doing, paired-of, Is-who};
+ghost use Rattle.machine.specs.Sofar.{After, Names, Doing, paired-of, Is-who};
 use super::outcome::Outcome;
 use super::outcome::Race;
 use store::Deed;
@@ -57,7 +57,8 @@ pub fn note(
     deed: Deed,
 ) -> Outcome
     requires few { ⌜ group < 1024 ⌝ ∗ ⌜ lane < 1024 ⌝ }
-    ensures { λ r. ⌜ ((at : ℕ → Body) (d : Grid) (ts : List Turn) (ls cs ls′ cs′ : List ℕ) → Doing z at d ts ls cs (now (kept .entry)) ls′ cs′ group lane phase deed → After z at d (ts ++ (of group lane ∷ [])) ls′ cs′ (now (kept .exit)) r) ⌝ }
+    ensures after { λ r. ⌜ ((at : ℕ → Body) (d : Grid) (ts : List Turn) (ls cs ls′ cs′ : List ℕ) → Doing z at d ts ls cs (now (kept .entry)) ls′ cs′ group lane phase deed → After z at d (ts ++ (of group lane ∷ [])) ls′ cs′ (now (kept .exit)) r) ⌝ }
+    ensures names { λ r. ⌜ Names group lane r ⌝ }
 {
     match deed {
         Deed::Quiet => Outcome::Fine,

@@ -5,3 +5,4 @@ pub mod Spelt
 pub mod Turn
 pub mod Shrinks
 pub mod Lines
+pub mod Copies

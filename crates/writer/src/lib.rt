@@ -1,9 +1,3 @@
-// A text written anew.
-ghost use Rattle.writer.specs.Once.{One-program};
-
-// A text is one program at most.
-pub fn one_program_stands() -> u8
-    ensures { λ _. ⌜ One-program ⌝ }
-{
-    0
-}
+// A program's text written anew.
+pub mod anew;
+mod copy;

@@ -6,3 +6,5 @@ pub mod Turn
 pub mod Shrinks
 pub mod Lines
 pub mod Copies
+pub mod Same
+pub mod Renewed

@@ -3,7 +3,8 @@ use mathlib.Core.Path.{_≡_, refl, sym, _∙_, ap}
 use mathlib.Core.Logic.{_≢_, _⊎_, inl, inr}
 use mathlib.Core.Bool.{Bool, true, false}
 use mathlib.Core.List.{List}
-use Prim.Native.Nat.{ℕ, zero, suc, _+_, _*_, _≤_, _<_}
+use Prim.Native.Nat.{ℕ, zero, suc, _+_, _*_, _-_, _≤_, _<_}
+use native.Mathlib.Nat.{add-mul}
 use native.Mathlib.Omega.{arith}
 use lib.Arith.{digits-lt}
 use lib.Dec.{eqb}
@@ -28,6 +29,29 @@ place-same z g s l g′ s′ l′ hs hs′ hl hl′ e =
     let p = digits-same (z .lanes) (g * slots z + s) (g′ * slots z + s′) l l′ hl hl′ e in
     let q = digits-same (slots z) g g′ s s′ hs hs′ (p .0) in
     (q .0, q .1, p .1)
+
+-- own numbers lie one stride apart
+pub own-place : (z : Sizes) (g k l i : ℕ) → place-of z g (128 + k) (l + i) ≡ place-of z g 128 l + k * z .lanes + i
+unfolding place-of
+own-place z g k l i =
+    let p : g * slots z + (128 + k) ≡ (g * slots z + 128) + k = omega arith in
+    rw (p, add-mul (g * slots z + 128) k (z .lanes)) (omega arith)
+
+pub own-range : (z : Sizes) (g k l width : ℕ) → g < z .groups → k < z .owns → l < z .lanes → l + width ≤ z .lanes → place-of z g 128 l + k * z .lanes + width ≤ room z
+own-range z g k l width hg hk hl hw =
+    let i = z .lanes - l - 1 in
+    let e : l + i ≡ z .lanes - 1 = omega arith in
+    let p = place-lt z g (128 + k) (l + i) hg (omega arith) (omega arith) in
+    let q = own-place z g k l i in
+    omega arith
+
+pub own-slot : (z : Sizes) (ls : List ℕ) (g l k : ℕ) → k < z .owns → getD (own-of z ls g l) k 0 ≡ slot-of z ls g (128 + k) l
+unfolding own-of
+own-slot z ls g l k h = upto-at 0 (λ j. slot-of z ls g (128 + j) l) (z .owns) k h
+
+pub own-at : (z : Sizes) (ls : List ℕ) (g l i k : ℕ) → k < z .owns → getD (own-of z ls g (l + i)) k 0 ≡ getD ls (place-of z g 128 l + k * z .lanes + i) 0
+unfolding slot-of
+own-at z ls g l i k h = own-slot z ls g (l + i) k h ∙ ap (λ p. getD ls p 0) (own-place z g k l i)
 
 -- slots after a write to one
 module _ (z : Sizes) (g s l : ℕ) (hs : s < slots z) (hl : l < z .lanes) where

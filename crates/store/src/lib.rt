@@ -14,6 +14,7 @@ pub use groups::word_of;
 pub use words::go_wrong;
 pub use words::is_wrong;
 pub use words::line_of;
+pub use words::own_base;
 pub use words::own_of;
 pub use words::place;
 pub use words::put_own;

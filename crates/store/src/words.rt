@@ -23,6 +23,16 @@ pub fn place(z: Sizes, g: usize, s: usize, l: usize) -> usize
     (g * (128 + z.owns) + s) * z.lanes + l
 }
 
+// Where own numbers lie: own number k of lane l + i of group g is at this place, k times the lanes and i further.
+pub fn own_base(z: Sizes, g: usize, l: usize) -> usize
+    requires sized { ⌜ Sized z ⌝ }
+    requires group { ⌜ g < z .groups ⌝ }
+    requires lane { ⌜ l < z .lanes ⌝ }
+    ensures { λ r. ⌜ r ≡ place-of z g 128 l ⌝ }
+{
+    (g * (128 + z.owns) + 128) * z.lanes + l
+}
+
 // The place of a cell of the field, or of group g, if it is there.
 pub fn spot(z: Sizes, field: bool, g: usize, c: u32) -> Option<usize>
     requires sized { ⌜ Sized z ⌝ }

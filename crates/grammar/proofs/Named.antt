@@ -32,11 +32,15 @@ pub record Walked (ns : List (List ℕ)) (text u : List ℕ) (i k : ℕ) : Type 
 -- The line of names is there exactly if there are names.
 pub walk-none : (ns : List (List ℕ)) (text u : List ℕ) → Names-in ns text → take 4 text ≡ codes "own " → Walked ns text u 3 0
 walk-none ns text u n e =
-    elim (n .own-line)
-      [ inl p ↦ absurd (n .missing (p .0) e)
+    elim (n .own-line) [
+      | inl p ↦ absurd (n .missing (p .0) e)
       | inr p ↦
-        record { rest = n .rest; left = ap (λ t. drop 3 t) (n .whole ∙ ap (λ t. t ++ n .rest) (p .1)) ∙ append-assoc (spaced ns) (10 ∷ []) (n .rest);
-          passed = λ j h. absurd (omega arith) } ]
+          record {
+            rest = n .rest;
+            left = ap (λ t. drop 3 t) (n .whole ∙ ap (λ t. t ++ n .rest) (p .1)) ∙ append-assoc (spaced ns) (10 ∷ []) (n .rest);
+            passed = λ j h. absurd (omega arith);
+          }
+    ]
 
 line-begins : (ns : List (List ℕ)) (rest : List ℕ) → ns ≢ [] → take 4 ((codes "own" ++ (spaced ns ++ (10 ∷ []))) ++ rest) ≡ codes "own "
 line-begins [] rest h = absurd (h refl)
@@ -44,9 +48,10 @@ line-begins (n ∷ ns) rest h = refl
 
 pub no-names : (ns : List (List ℕ)) (text u : List ℕ) → Names-in ns text → (take 4 text ≡ codes "own " → ⊥) → (k : ℕ) → k < length ns → getD ns k [] ≢ u
 no-names ns text u n e k h =
-    elim (n .own-line)
-      [ inl p ↦ absurd (omega (arith, ap length (p .0)))
-      | inr p ↦ absurd (e (ap (λ t. take 4 t) (n .whole ∙ ap (λ t. t ++ n .rest) (p .1)) ∙ line-begins ns (n .rest) (p .0))) ]
+    elim (n .own-line) [
+      | inl p ↦ absurd (omega (arith, ap length (p .0)))
+      | inr p ↦ absurd (e (ap (λ t. take 4 t) (n .whole ∙ ap (λ t. t ++ n .rest) (p .1)) ∙ line-begins ns (n .rest) (p .0)))
+    ]
 
 -- No name is empty.
 pub not-empty : (ns : List (List ℕ)) (text u : List ℕ) → Names-in ns text → length u ≡ 0 → (k : ℕ) → k < length ns → getD ns k [] ≢ u
@@ -87,10 +92,15 @@ module _ (ns : List (List ℕ)) (text u : List ℕ) (i k : ℕ) (n : Names-in ns
 
     next-there : Next ns text u i k e
     next-there =
-        record { more = h;
+        record {
+          more = h;
           name = ap (λ t. take (e - (i + 1)) t) from-name ∙ take-at (getD ns k []) _ (e - (i + 1)) (omega (arith, end-is));
-          on = λ ne. record { rest = w .rest; left = ap (λ m. drop m text) end-is ∙ sym (drop-drop (length (getD ns k [])) (i + 1) text) ∙ ap (λ t. drop (length (getD ns k [])) t) from-name ∙ drop-at (getD ns k []) _ _ refl;
-            passed = λ j hj hn. elim (cases-eq j k) [ inl p ↦ (λ q. ne (ap (λ m. getD ns m []) (sym p) ∙ q)) | inr p ↦ w .passed j (omega arith) hn ] } }
+          on = λ ne. record {
+            rest = w .rest;
+            left = ap (λ m. drop m text) end-is ∙ sym (drop-drop (length (getD ns k [])) (i + 1) text) ∙ ap (λ t. drop (length (getD ns k [])) t) from-name ∙ drop-at (getD ns k []) _ _ refl;
+            passed = λ j hj hn. elim (cases-eq j k) [ inl p ↦ (λ q. ne (ap (λ m. getD ns m []) (sym p) ∙ q)) | inr p ↦ w .passed j (omega arith) hn ];
+          };
+        }
 
   pub next : (e : ℕ) → Word-end text (i + 1) e → getD text i 0 ≡ 32 → Next ns text u i k e
   next e we h = elim (cases-lt k (length ns)) [ inl p ↦ next-there e we p | inr p ↦ absurd (omega (arith, h, ends p)) ]

@@ -29,12 +29,13 @@ behind-part text u z i k e = sym (getD-drop i text (length u + k) 0) ∙ ap (λ 
 -- A word that is apart from what is behind it ends where it ends.
 pub word-ends : (text : List ℕ) (i r : ℕ) (u z : List ℕ) → Word-end text i r → drop i text ≡ u ++ z → each-byte word-byte u ≡ true → Apart z → r ≡ i + length u
 word-ends text i r u z w e h a =
-    elim (cases-order r (i + length u))
-      [ inl p ↦ p
+    elim (cases-order r (i + length u)) [
+      | inl p ↦ p
       | inr (inl p) ↦
-        let k : r - i < length u = omega (arith, w .from) in
-        let q : getD text r 0 ≡ getD u (r - i) 0 = ap (λ m. getD text m 0) (omega (arith, w .from)) ∙ at-part text u z i (r - i) e k in
-        absurd (both-ways _ (w .apart) (ap word-byte q ∙ byte-at word-byte u (r - i) h k))
+          let k : r - i < length u = omega (arith, w .from) in
+          let q : getD text r 0 ≡ getD u (r - i) 0 = ap (λ m. getD text m 0) (omega (arith, w .from)) ∙ at-part text u z i (r - i) e k in
+          absurd (both-ways _ (w .apart) (ap word-byte q ∙ byte-at word-byte u (r - i) h k))
       | inr (inr p) ↦
-        let q : getD text (i + length u) 0 ≡ getD z 0 0 = ap (λ m. getD text m 0) (omega arith) ∙ behind-part text u z i 0 e in
-        absurd (both-ways _ (ap word-byte q ∙ a) (w .word (i + length u) (omega arith) p)) ]
+          let q : getD text (i + length u) 0 ≡ getD z 0 0 = ap (λ m. getD text m 0) (omega arith) ∙ behind-part text u z i 0 e in
+          absurd (both-ways _ (ap word-byte q ∙ a) (w .word (i + length u) (omega arith) p))
+    ]

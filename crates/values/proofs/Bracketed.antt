@@ -134,15 +134,23 @@ module _ (text : List ℕ) (i : ℕ) (own : List ℕ) (r : Row) (out : List ℕ)
   -- No expression stands there.
   pub cut-short : length text < mid + 3 → i < length text → Evaluated text i own r out mid
   cut-short h here =
-      record { from = omega (arith, one .from); within = λ _. one .within (omega arith);
-        stop = λ ns n di le e s. absurd (omega (arith, h, fits ns n di le e s)); each = λ ns n di le e s. absurd (omega (arith, h, fits ns n di le e s)) }
+      record {
+        from = omega (arith, one .from);
+        within = λ _. one .within (omega arith);
+        stop = λ ns n di le e s. absurd (omega (arith, h, fits ns n di le e s));
+        each = λ ns n di le e s. absurd (omega (arith, h, fits ns n di le e s));
+      }
 
   pub no-op : ((op : Op) → byte-of op ≢ getD text (mid + 1) 0) → i < length text → Evaluated text i own r out mid
   no-op h here =
       let none : (ns : List (List ℕ)) (n : Names-in ns text) (di : Distinct ns) (le : length ns ≤ r .owns) (e : Expr) (s : Stands (Named ns) text i e) → ⊥ =
-          λ ns n di le e s. h (parts ns n di le e s .op) (sym (op-byte ns text n i e s (parts ns n di le e s) mid (mid-is ns n di le e s))) in
-      record { from = omega (arith, one .from); within = λ _. one .within (omega arith);
-        stop = λ ns n di le e s. absurd (none ns n di le e s); each = λ ns n di le e s. absurd (none ns n di le e s) }
+      λ ns n di le e s. h (parts ns n di le e s .op) (sym (op-byte ns text n i e s (parts ns n di le e s) mid (mid-is ns n di le e s))) in
+      record {
+        from = omega (arith, one .from);
+        within = λ _. one .within (omega arith);
+        stop = λ ns n di le e s. absurd (none ns n di le e s);
+        each = λ ns n di le e s. absurd (none ns n di le e s);
+      }
 
   module _ (right : List ℕ) (end : ℕ) (op : Op) (all : List ℕ) (is : byte-of op ≡ getD text (mid + 1) 0) (room : mid + 3 ≤ length text) (two : Evaluated text (mid + 3) own r right end) (wide : length right ≡ length out) (done : Applied op out right all) where
     end-is : (ns : List (List ℕ)) (n : Names-in ns text) (di : Distinct ns) (le : length ns ≤ r .owns) (e : Expr) (s : Stands (Named ns) text i e) → end ≡ (mid + 3) + length (parts ns n di le e s .v)
@@ -162,10 +170,18 @@ module _ (text : List ℕ) (i : ℕ) (own : List ℕ) (r : Row) (out : List ℕ)
 
     pub closed : end < length text → Evaluated text i own r all (end + 1)
     closed h =
-        record { from = omega (arith, one .from, two .from); within = λ _. omega arith;
-          stop = λ ns n di le e s. omega (arith, end-is ns n di le e s, whole-is ns n di le e s); each = worth }
+        record {
+          from = omega (arith, one .from, two .from);
+          within = λ _. omega arith;
+          stop = λ ns n di le e s. omega (arith, end-is ns n di le e s, whole-is ns n di le e s);
+          each = worth;
+        }
 
     pub unclosed : length text ≤ end → Evaluated text i own r all end
     unclosed h =
-        record { from = omega (arith, one .from, two .from); within = λ _. two .within room;
-          stop = λ ns n di le e s. absurd (omega (arith, h, end-is ns n di le e s, fits ns n di le e s)); each = worth }
+        record {
+          from = omega (arith, one .from, two .from);
+          within = λ _. two .within room;
+          stop = λ ns n di le e s. absurd (omega (arith, h, end-is ns n di le e s, fits ns n di le e s));
+          each = worth;
+        }

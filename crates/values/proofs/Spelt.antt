@@ -55,8 +55,8 @@ lanes-word = record { some = omega arith; bytes = refl }
 pub word-spelt : (ns : List (List ℕ)) (text u : List ℕ) → Names-in ns text → (e : Expr) → Spells-expr (Named ns) e u → simple e ≡ true → Word u
 word-spelt ns text u n =
     word-cases ns u (λ _. Word u) (λ a i. record { some = i .some; bytes = digits-word u (i .bytes) })
-      (λ k m. let is = n .names k (m .0) in word-same u (getD ns k []) (m .1) record { some = is .some; bytes = is .bytes })
-      (λ q. word-same u _ q lane-word) (λ q. word-same u _ q group-word) (λ q. word-same u _ q lanes-word)
+    (λ k m. let is = n .names k (m .0) in word-same u (getD ns k []) (m .1) record { some = is .some; bytes = is .bytes })
+    (λ q. word-same u _ q lane-word) (λ q. word-same u _ q group-word) (λ q. word-same u _ q lanes-word)
 
 -- Two expressions in a bracket.
 pub record Halves (ns : List (List ℕ)) (e : Expr) (t : List ℕ) : Type 0 where

@@ -52,9 +52,10 @@ module _ (ns : List (List ℕ)) (text : List ℕ) (n : Names-in ns text) (i : �
 
   some-text : 1 ≤ length (s .spelling)
   some-text =
-      elim (cases-bool (simple e))
-        [ inl p ↦ word-spelt ns text (s .spelling) n e (s .spells) p .some
-        | inr p ↦ omega (arith, ap length (halves ns e (s .spelling) (s .spells) p .whole)) ]
+      elim (cases-bool (simple e)) [
+        | inl p ↦ word-spelt ns text (s .spelling) n e (s .spells) p .some
+        | inr p ↦ omega (arith, ap length (halves ns e (s .spelling) (s .spells) p .whole))
+      ]
 
   pub in-text : i + length (s .spelling) ≤ length text
   in-text = room some-text
@@ -75,12 +76,18 @@ module _ (ns : List (List ℕ)) (text : List ℕ) (n : Names-in ns text) (i : �
 
 pub word-evaluated : (text : List ℕ) (i : ℕ) (own : List ℕ) (r : Row) (out : List ℕ) (j : ℕ) (leaf : Leaf) → getD text i 0 ≢ 40 → Word-end text i j → Leaf-at simple text (between i j text) leaf → Leaf-worth leaf own r out → Evaluated text i own r out j
 word-evaluated text i own r out j leaf h we at worth =
-    record { from = we .from; within = we .within;
+    record {
+      from = we .from;
+      within = we .within;
       stop = λ ns n di le e s. word-stop ns text n i e s h j we;
-      each = λ ns n di le e s. worth ns e le (word-leaf ns text n i e s h j we leaf di at) }
+      each = λ ns n di le e s. worth ns e le (word-leaf ns text n i e s h j we leaf di at);
+    }
 
 pub none-evaluated : (text : List ℕ) (i : ℕ) (own : List ℕ) (r : Row) (out : List ℕ) → length text ≤ i → Evaluated text i own r out i
 none-evaluated text i own r out h =
-    record { from = omega arith; within = λ q. q;
+    record {
+      from = omega arith;
+      within = λ q. q;
       stop = λ ns n di le e s. absurd (omega (arith, here-text ns text n i e s));
-      each = λ ns n di le e s. absurd (omega (arith, here-text ns text n i e s)) }
+      each = λ ns n di le e s. absurd (omega (arith, here-text ns text n i e s));
+    }

@@ -6,7 +6,8 @@ ghost use Rattle.std.specs.Holes.{between};
 ghost use Rattle.lanes.specs.Step.{whole};
 ghost use Rattle.grammar.specs.Spelling.{decimal};
 ghost use Rattle.values.specs.Worth.{simple, plain, Leaf-at};
-use grammar::bytes::{byte, is_digit};
+use grammar::bytes::byte;
+use grammar::bytes::is_digit;
 use grammar::names::name_index;
 
 #[derive(Clone, Copy)]

@@ -13,11 +13,12 @@ use Rattle.grammar.proofs.names.name_index.Needs.{then-at-text·by·then-at-te
 
 pub returns-then-from-to : need.returns-then-from-to
 returns-then-from-to c fits ns n k h =
-    elim (c .then-from-to .either)
-      [ inl p ↦
-        let none : c .args .to - c .args .from ≡ 0 = omega arith in
-        not-empty ns (c .args .text .now) _ n (ap (λ m. length (take m (drop (c .args .from) (c .args .text .now)))) none) k h
-      | inr p ↦ absurd (omega arith) ]
+    elim (c .then-from-to .either) [
+      | inl p ↦
+          let none : c .args .to - c .args .from ≡ 0 = omega arith in
+          not-empty ns (c .args .text .now) _ n (ap (λ m. length (take m (drop (c .args .from) (c .args .text .now)))) none) k h
+      | inr p ↦ absurd (omega arith)
+    ]
 
 pub returns-then-not-has-names : need.returns-then-not-has-names
 returns-then-not-has-names c fits ns n k h = no-names ns (c .args .text .now) _ n (not-from-decides _ (c .has-names .ensures) (c .if-not-has-names .taken)) k h
@@ -28,9 +29,10 @@ loop-k-holds c ns n = walk-none ns (c .args .text .now) _ n (c .has-names .ensur
 pub returns-then-at-text : need.returns-then-at-text
 returns-then-at-text c fits ns n k h =
     let w = c .loop-k .inv ns n in
-    elim (c .then-at-text .came)
-      [ then-at-text·by·then-at-text v ↦ stopped ns (c .args .text .now) _ _ _ n w (λ q. omega (arith, q, getD-past (c .args .text .now) (c .loop-k .at) 0 (v .if-at-text .taken))) k h
-      | then-at-text·by·else-at-text·then-text-at-ne32 v ↦ stopped ns (c .args .text .now) _ _ _ n w (v .if-text-at-ne32 .taken) k h ]
+    elim (c .then-at-text .came) [
+      | then-at-text·by·then-at-text v ↦ stopped ns (c .args .text .now) _ _ _ n w (λ q. omega (arith, q, getD-past (c .args .text .now) (c .loop-k .at) 0 (v .if-at-text .taken))) k h
+      | then-at-text·by·else-at-text·then-text-at-ne32 v ↦ stopped ns (c .args .text .now) _ _ _ n w (v .if-text-at-ne32 .taken) k h
+    ]
 
 pub returns-then-eq : need.returns-then-eq
 returns-then-eq c fits ns n =

@@ -12,12 +12,13 @@ use Rattle.values.proofs.leaves.number_of.Needs.{then-b-lt48, else-b-lt48}
 
 pub loop-b-again : need.loop-b-again
 loop-b-again c =
-    let d : c .if-b-lt48 .d ≡ getD (c .args .digits .now) (c .loop-b .b-index) 0 - 48 = elim (c .if-b-lt48 .came) [ then-b-lt48 w ↦ omega (arith, w .d-is) | else-b-lt48 w ↦ omega (arith, w .d-is) ] in
-    (omega arith,
+    let d : c .if-b-lt48 .d ≡ getD (c .args .digits .now) (c .loop-b .b-index) 0 - 48 = elim (c .if-b-lt48 .came) [ then-b-lt48 w ↦ omega (arith, w .d-is) | else-b-lt48 w ↦ omega (arith, w .d-is) ] in (
+      omega arith,
       ap (λ d. decimal ((c .loop-b .n * 10 + d) % whole) (drop (c .loop-b .b-index + 1) (c .args .digits .now)) % whole) d
-      ∙ decimal-more (c .loop-b .n) (getD (c .args .digits .now) (c .loop-b .b-index) 0) (drop (c .loop-b .b-index + 1) (c .args .digits .now))
-      ∙ ap (λ u. decimal (c .loop-b .n) u % whole) (sym (drop-more (c .args .digits .now) (c .loop-b .b-index) 0 (c .loop-b-test .taken)))
-      ∙ c .loop-b .inv .1)
+          ∙ decimal-more (c .loop-b .n) (getD (c .args .digits .now) (c .loop-b .b-index) 0) (drop (c .loop-b .b-index + 1) (c .args .digits .now))
+          ∙ ap (λ u. decimal (c .loop-b .n) u % whole) (sym (drop-more (c .args .digits .now) (c .loop-b .b-index) 0 (c .loop-b-test .taken)))
+          ∙ c .loop-b .inv .1,
+    )
 
 pub returns : need.returns
 returns c =

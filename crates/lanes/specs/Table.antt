@@ -106,7 +106,7 @@ waits-alone =
       told = stuck 0;
     }
 
--- own a; while 1; a = a + 1; end, with one lane and 3 steps granted: there is a fourth.
+-- own a; while 1; a = (a + 1); end, with one lane and 3 steps granted: there is a fourth.
 abbrev pub without-end : Row
 without-end =
     record {
@@ -119,7 +119,7 @@ without-end =
       told = too-long;
     }
 
--- barrier; cell 0 = lane, with 2 lanes: both write cell 0 of the group behind the barrier, so in phase 1.
+-- cells 1; barrier; cell 0 = lane, with 2 lanes: both write cell 0 of the group behind the barrier, so in phase 1.
 abbrev pub behind-barrier : Row
 behind-barrier =
     record {
@@ -135,7 +135,7 @@ behind-barrier =
     }
 
 -- own a; cells 1; field 0 = (4294967295 + 1); field 1 = (0 - 1); field 2 = (65536 * 65537); field 3 = (7 / 2); field 4 = (7 / 0);
--- field 5 = (7 % 0); field 6 = (2 < 2); field 7 = (2 == 2); field 8 = a; a = cell 0; field 9 = a; with one lane: own numbers and cells begin as 0.
+-- field 5 = (7 % 0); field 6 = (2 < 2); field 7 = (2 = 2); field 8 = a; a = cell 0; field 9 = a; with one lane: own numbers and cells begin as 0.
 abbrev pub numbers : Row
 numbers =
     record {

@@ -2,3 +2,4 @@ pub mod Scanned
 pub mod Named
 pub mod Listed
 pub mod Runs
+pub mod Begins

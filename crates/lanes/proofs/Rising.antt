@@ -13,7 +13,7 @@ use Rattle.lanes.specs.Grid.{Group, Grid, Mark, Turn, of, release, no-group, g
 use Rattle.lanes.proofs.Places.{at-holds}
 use Rattle.lanes.proofs.Turns.{move, turn-did, turn-idle, turns-did, turns-idle, marked-did, marked-idle}
 use Rattle.lanes.proofs.Crossing.{All}
-use Rattle.lanes.proofs.Runs.{all-append, all-at}
+use Rattle.lanes.proofs.Runs.{all-append, all-right, all-at}
 
 pub did-rises : (n : ℕ) (d : Grid) (t : Turn) (g p : ℕ) → p ≤ the-group d g .phase → p ≤ the-group (did n d t) g .phase
 unfolding the-group did
@@ -93,3 +93,42 @@ rises n d ts us a b j k hj ej hk ek same =
     let high : From e b = all-at (From e) (marked n e us) k b (marked-from n e us) hk ek in
     let z : the-group e (a .by-group) .phase ≡ the-group e (b .by-group) .phase = ap (λ (g : ℕ). the-group e g .phase) same in
     omega arith
+
+-- each mark of a list may come later than those before it
+abbrev pub Risen : List Mark → Type 0
+Risen [] = Unit {0}
+Risen (a ∷ ms) = All (Follows a) ms × Risen ms
+
+phase-now : (d : Grid) (a b : Mark) → Now d a → From d b → Follows a b
+phase-now d a b p q same = let z : the-group d (a .by-group) .phase ≡ the-group d (b .by-group) .phase = ap (λ (g : ℕ). the-group d g .phase) same in omega arith
+
+-- the marks of one turn, then those of the turns behind it
+joined : (d : Grid) (ms ks : List Mark) → All (Now d) ms → All (From d) ks → Risen ks → Risen (ms ++ ks)
+joined d [] ks s t r = r
+joined d (a ∷ ms) ks s t r = (
+  all-append (Follows a) ms ks (all-map (Now d) (Follows a) ms (λ b q. phase-now d a b (s .0) (omega arith)) (s .1)) (all-map (From d) (Follows a) ks (λ b q. phase-now d a b (s .0) q) t),
+  joined d ms ks (s .1) t r,
+)
+
+pub row-risen : (n : ℕ) (d : Grid) (ts : List Turn) → Risen (marked n d ts)
+unfolding marked
+row-risen n d [] = tt
+row-risen n d (t ∷ ts) =
+    elim (cases-bool (can n d t)) [
+      | inl e ↦
+          let later : All (From d) (marks-at n d t ++ marked n (did n d t) ts) = subst (λ (ms : List Mark). All (From d) ms) (marked-did n d t ts e) (marked-from n d (t ∷ ts)) in
+          subst Risen (sym (marked-did n d t ts e))
+          (joined d (marks-at n d t) (marked n (did n d t) ts) (now-at n d t) (all-right (From d) (marks-at n d t) (marked n (did n d t) ts) later) (row-risen n (did n d t) ts))
+      | inr e ↦ subst Risen (sym (marked-idle n d t ts e)) (row-risen n d ts)
+    ]
+
+risen-at : (ms : List Mark) (j k : ℕ) (a b : Mark) → Risen ms → j < k → k < length ms → getD ms j a ≡ a → getD ms k b ≡ b → Follows a b
+risen-at [] j k a b r h i p q = absurd (not-suc-le-zero i)
+risen-at (c ∷ ms) j zero a b r h i p q = absurd (not-suc-le-zero h)
+risen-at (c ∷ ms) zero (suc k) a b r h i p q = subst (λ (x : Mark). Follows x b) p (all-at (Follows c) ms k b (r .0) (le-of-suc-le-suc i) q)
+risen-at (c ∷ ms) (suc j) (suc k) a b r h i p q = risen-at ms j k a b (r .1) (le-of-suc-le-suc h) (le-of-suc-le-suc i) p q
+
+-- of two marks of a row, the later one of a group has no lower phase
+pub marks-rise : (n : ℕ) (d : Grid) (ts : List Turn) (j k : ℕ) (a b : Mark) → j < k → k < length (marked n d ts) →
+    getD (marked n d ts) j a ≡ a → getD (marked n d ts) k b ≡ b → a .by-group ≡ b .by-group → a .phase ≤ b .phase
+marks-rise n d ts j k a b h i p q = risen-at (marked n d ts) j k a b (row-risen n d ts) h i p q

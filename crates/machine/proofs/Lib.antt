@@ -3,3 +3,4 @@ mod Marks
 mod Noted
 mod Stances
 mod Masked
+mod Passing

@@ -2,3 +2,4 @@ pub mod Sofar
 pub mod Line
 pub mod Choices
 pub mod Masks
+pub mod Schedule

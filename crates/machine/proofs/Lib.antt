@@ -4,3 +4,4 @@ mod Noted
 mod Stances
 mod Masked
 mod Passing
+mod Ones

@@ -47,7 +47,8 @@ module _ (z : Sizes) (ls cs ks : List ℕ) (g start mask stop : ℕ) (todo : Tod
   row-none =
       record {
         did = record { lined = λ _ _ _ h. h; rest = λ _ _ _ _ _ _. refl; words = λ _ _ _ _ _ _. refl; grid = λ _ _ _. refl; steps = λ _ _ _. refl };
-        sofar = λ at d ts _ _ s. rw append-nil s }
+        sofar = λ at d ts _ _ s. rw append-nil s;
+      }
 
   module _ (ls′ cs′ ks′ : List ℕ) (i : ℕ) (hi : i < 32) (far : Row-sofar z ls cs ks ls′ cs′ ks′ g start mask stop todo xs ys i) where
     pub row-off : on mask i ≡ false → Row-sofar z ls cs ks ls′ cs′ ks′ g start mask stop todo xs ys (i + 1)
@@ -58,8 +59,10 @@ module _ (z : Sizes) (ls cs ks : List ℕ) (g start mask stop : ℕ) (todo : Tod
             rest = λ g′ s l hs hl ne. far .did .rest g′ s l hs hl (λ a j x h o. ne a j x (omega arith) o);
             words = far .did .words;
             grid = λ at ends ready. rw (row-turns-off g start mask i e) (far .did .grid at ends ready);
-            steps = λ at ends ready. rw (row-turns-off g start mask i e) (far .did .steps at ends ready) };
-          sofar = λ at d ts ends ready s. rw (row-turns-off g start mask i e) (far .sofar at d ts ends ready s) }
+            steps = λ at ends ready. rw (row-turns-off g start mask i e) (far .did .steps at ends ready);
+          };
+          sofar = λ at d ts ends ready s. rw (row-turns-off g start mask i e) (far .sofar at d ts ends ready s);
+        }
 
     module _ (ls″ cs″ ks″ : List ℕ) (r : Outcome) (e : on mask i ≡ true) (hl : start + i < z .lanes) (lane : Lane-did z ls′ cs′ ks′ ls″ cs″ ks″ g (start + i) stop todo (getD xs i 0) (getD ys i 0) r) where
       slot-still : (s : ℕ) → s < slots z → slot-of z ls′ g s (start + i) ≡ slot-of z ls g s (start + i)
@@ -81,13 +84,14 @@ module _ (z : Sizes) (ls cs ks : List ℕ) (g start mask stop : ℕ) (todo : Tod
             rest = λ g′ s l hs hl′ ne. lane .only .others g′ s l hs hl′ (λ a x. ne a i x (omega arith) e) ∙ far .did .rest g′ s l hs hl′ (λ a j x h o. ne a j x (omega arith) o);
             words = λ g′ s l h2 hs hl′. lane .only .words g′ s l h2 hs hl′ ∙ far .did .words g′ s l h2 hs hl′;
             grid = λ at ends ready.
-              rw (row-turns-on g start mask i e)
-              (lane .grid at ends (still-ready at ready) ∙ ap (λ (d : Grid). turn (z .lanes) d (of g (start + i))) (far .did .grid at ends ready)
+                rw (row-turns-on g start mask i e)
+                (lane .grid at ends (still-ready at ready) ∙ ap (λ (d : Grid). turn (z .lanes) d (of g (start + i))) (far .did .grid at ends ready)
                 ∙ sym (grid-more (z .lanes) (grid-of z at ls cs) (row-turns g start mask i) (of g (start + i))));
             steps = λ at ends ready.
-              rw (row-turns-on g start mask i e)
-              (steps-more (z .lanes) (grid-of z at ls cs) (row-turns g start mask i) (of g (start + i)) (could-now at ends ready)
-                ∙ ap (λ (n : ℕ). n + 1) (far .did .steps at ends ready) ∙ sym (length-push (row-turns g start mask i) (of g (start + i)))) }
+                rw (row-turns-on g start mask i e)
+                (steps-more (z .lanes) (grid-of z at ls cs) (row-turns g start mask i) (of g (start + i)) (could-now at ends ready)
+                ∙ ap (λ (n : ℕ). n + 1) (far .did .steps at ends ready) ∙ sym (length-push (row-turns g start mask i) (of g (start + i))));
+          }
 
       after-on : (at : ℕ → Body) (d : Grid) (ts : List Turn) → at stop ≡ end → Ready-row z at ls g start mask todo xs ys → Sofar z at d ts ls cs ks →
           After z at d (ts ++ row-turns g start mask (i + 1)) ls″ cs″ ks″ r

@@ -40,7 +40,8 @@ module _ (z : Sizes) (at : ℕ → Body) (ls cs : List ℕ) where
   passed-group g r p all not-go (of h k) (inl b) =
       elim (cases-eq h g) [
         | inl q ↦ elim (cases-lt k r) [ inl s ↦ p (of h k) (inr (q, s)) | inr s ↦ can-outside z at ls cs h k (inr (omega arith)) ]
-        | inr q ↦ p (of h k) (inl (omega arith)) ]
+        | inr q ↦ p (of h k) (inl (omega arith))
+      ]
   passed-group g r p all not-go (of h k) (inr b) = let q = b .1 in absurd (omega arith)
   passed-group g r p all not-go (release h) b = elim (cases-eq h g) [ inl q ↦ rw q not-go | inr q ↦ p (release h) (omega arith) ]
 

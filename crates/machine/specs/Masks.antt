@@ -25,7 +25,7 @@ pub record Lane-did (z : Sizes) (ls cs ks ls′ cs′ ks′ : List ℕ) (g l sto
   pub could : (at : ℕ → Body) → at stop ≡ end → Ready z at ls g l todo c v → can (z .lanes) (grid-of z at ls cs) (of g l) ≡ true
   pub grid : (at : ℕ → Body) → at stop ≡ end → Ready z at ls g l todo c v → grid-of z at ls′ cs′ ≡ turn (z .lanes) (grid-of z at ls cs) (of g l)
   pub after : (at : ℕ → Body) (d : Grid) (ts : List Turn) → at stop ≡ end → Ready z at ls g l todo c v → Sofar z at d ts ls cs ks →
-    After z at d (ts ++ (of g l ∷ [])) ls′ cs′ ks′ r
+      After z at d (ts ++ (of g l ∷ [])) ls′ cs′ ks′ r
 
 -- Each lane in the mask has that to do next, with the numbers that were worked out for it.
 unfoldable pub Ready-row : Sizes → (ℕ → Body) → List ℕ → ℕ → ℕ → ℕ → Todo → List ℕ → List ℕ → Type 0
@@ -36,12 +36,12 @@ Ready-row z at ls g start mask todo xs ys = (i : ℕ) → i < 32 → on mask i �
 pub record Row-did (z : Sizes) (ls cs ls′ cs′ : List ℕ) (g start mask stop : ℕ) (todo : Todo) (xs ys : List ℕ) (i : ℕ) : Type 0 where
   pub lined : (lines : ℕ) → stop < lines → Goes lines todo → Lined z lines ls → Lined z lines ls′
   pub rest : (g′ s l : ℕ) → s < slots z → l < z .lanes → (g′ ≡ g → (j : ℕ) → l ≡ start + j → j < i → on mask j ≡ true → ⊥) →
-    slot-of z ls′ g′ s l ≡ slot-of z ls g′ s l
+      slot-of z ls′ g′ s l ≡ slot-of z ls g′ s l
   pub words : (g′ s l : ℕ) → 2 ≤ s → s < 128 → l < z .lanes → slot-of z ls′ g′ s l ≡ slot-of z ls g′ s l
   pub grid : (at : ℕ → Body) → at stop ≡ end → Ready-row z at ls g start mask todo xs ys →
-    grid-of z at ls′ cs′ ≡ turns (z .lanes) (grid-of z at ls cs) (row-turns g start mask i)
+      grid-of z at ls′ cs′ ≡ turns (z .lanes) (grid-of z at ls cs) (row-turns g start mask i)
   pub steps : (at : ℕ → Body) → at stop ≡ end → Ready-row z at ls g start mask todo xs ys →
-    steps (z .lanes) (grid-of z at ls cs) (row-turns g start mask i) ≡ length (row-turns g start mask i)
+      steps (z .lanes) (grid-of z at ls cs) (row-turns g start mask i) ≡ length (row-turns g start mask i)
 
 -- How far the line came, by its outcome: to the row's end; or it stopped at a lane of the mask, which is named if it went wrong.
 -- The lanes of the mask before that one have done their step, and so has it, and none behind it has.
@@ -56,10 +56,10 @@ pub record Row-outcome (z : Sizes) (ls cs ks ls′ cs′ ks′ : List ℕ) (g st
   pub ends : Ends g start mask many r
   pub did : Row-did z ls cs ls′ cs′ g start mask stop todo xs ys many
   pub after : (at : ℕ → Body) (d : Grid) (ts : List Turn) → at stop ≡ end → Ready-row z at ls g start mask todo xs ys → Sofar z at d ts ls cs ks →
-    After z at d (ts ++ row-turns g start mask many) ls′ cs′ ks′ r
+      After z at d (ts ++ row-turns g start mask many) ls′ cs′ ks′ r
 
 -- So far, with none wrong and no race.
 pub record Row-sofar (z : Sizes) (ls cs ks ls′ cs′ ks′ : List ℕ) (g start mask stop : ℕ) (todo : Todo) (xs ys : List ℕ) (i : ℕ) : Type 0 where
   pub did : Row-did z ls cs ls′ cs′ g start mask stop todo xs ys i
   pub sofar : (at : ℕ → Body) (d : Grid) (ts : List Turn) → at stop ≡ end → Ready-row z at ls g start mask todo xs ys → Sofar z at d ts ls cs ks →
-    Sofar z at d (ts ++ row-turns g start mask i) ls′ cs′ ks′
+      Sofar z at d (ts ++ row-turns g start mask i) ls′ cs′ ks′

@@ -13,6 +13,7 @@ use Rattle.store.specs.declared.Sizes.{Sizes}
 use Rattle.store.specs.Lent.{line-at, grid-of}
 use Rattle.machine.specs.declared.schedule.Choice.{Choice}
 use Rattle.machine.specs.declared.schedule.Choice.the-variants.{Row, GoOn}
+use Rattle.machine.specs.declared.inturn.InTurn.{InTurn}
 use Rattle.machine.specs.Line.{on, row-turns}
 
 -- The turns that are named: those of the lanes in a mask, lowest first, or that a group goes on.
@@ -58,3 +59,8 @@ Picked z at ls cs None = Still (z .lanes) (grid-of z at ls cs)
 Picked z at ls cs (Some (Row g l mask)) =
     (mask ≡ 1) × (g < z .groups) × (l < z .lanes) × (can (z .lanes) (grid-of z at ls cs) (of g l) ≡ true) × Passed (z .lanes) (grid-of z at ls cs) g l
 Picked z at ls cs (Some (GoOn g)) = (g < z .groups) × (can (z .lanes) (grid-of z at ls cs) (release g) ≡ true) × Passed (z .lanes) (grid-of z at ls cs) g 0
+
+-- Where one lane after the other goes on from what was found.
+abbrev pub come-to : Choice → InTurn
+come-to (Row g l mask) = record { group = g; lane = l }
+come-to (GoOn g) = record { group = g; lane = 0 }

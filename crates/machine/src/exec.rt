@@ -85,7 +85,17 @@ pub fn do_masked(
 {
     for i in 0..32usize {
         if is_on(row.mask, i) {
-            match do_lane(z, lanes, cells, marks, row.group, row.start + i, work, xs[i], ys[i]) {
+            match do_lane(
+                z,
+                lanes,
+                cells,
+                marks,
+                row.group,
+                row.start + i,
+                work,
+                xs[i],
+                ys[i],
+            ) {
                 Outcome::Fine => {}
                 stopped => return stopped,
             }

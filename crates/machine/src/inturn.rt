@@ -9,10 +9,11 @@ ghost use Rattle.lanes.specs.Grid.{of, can};
 ghost use Rattle.store.specs.Layout.{Sized, room};
 ghost use Rattle.store.specs.Lent.{grid-of};
 ghost use Rattle.machine.specs.Line.{Runs};
-ghost use Rattle.machine.specs.Schedule.{Passed, Picked};
+ghost use Rattle.machine.specs.Schedule.{Passed, Picked, come-to};
 use super::look::can_go_on;
 use super::look::can_step;
 use super::schedule::Choice;
+use super::schedule::Scheduler;
 use store::Sizes;
 
 // The first lane of the group, from lane `from` on, that can step.
@@ -33,7 +34,14 @@ fn lane_from(steps: &[u32], lines: usize, z: Sizes, lanes: &[u32], g: usize, fro
 }
 
 // What can be done from lane `lane` of group `group` on.
-pub fn find_from(steps: &[u32], lines: usize, z: Sizes, lanes: &[u32], group: usize, lane: usize) -> Option<Choice>
+pub fn find_from(
+    steps: &[u32],
+    lines: usize,
+    z: Sizes,
+    lanes: &[u32],
+    group: usize,
+    lane: usize,
+) -> Option<Choice>
     requires sized { ⌜ Sized z ⌝ }
     requires fit { ⌜ room z ≤ length (now lanes) ⌝ }
     ensures { λ r. ⌜ ((at : ℕ → Body) (cs : List ℕ) → Runs z at (now (steps .entry)) lines (now (lanes .entry)) → Passed (z .lanes) (grid-of z at (now (lanes .entry)) cs) group lane → Picked z at (now (lanes .entry)) cs r) ⌝ }
@@ -43,7 +51,11 @@ pub fn find_from(steps: &[u32], lines: usize, z: Sizes, lanes: &[u32], group: us
     while g < z.groups {
         let l = lane_from(steps, lines, z, lanes, g, from);
         if l < z.lanes {
-            return Some(Choice::Row { group: g, start: l, mask: 1 });
+            return Some(Choice::Row {
+                group: g,
+                start: l,
+                mask: 1,
+            });
         }
         if can_go_on(steps, lines, z, lanes, g) {
             return Some(Choice::GoOn { group: g });
@@ -52,4 +64,37 @@ pub fn find_from(steps: &[u32], lines: usize, z: Sizes, lanes: &[u32], group: us
         from = 0;
     }
     None
+}
+
+// Where it has come to: nothing before this lane of this group can be done.
+#[derive(Clone, Copy)]
+pub struct InTurn {
+    pub group: usize,
+    pub lane: usize,
+}
+
+// A lane that steps may step again; the lanes of a group that goes on are looked at from the first.
+fn came_to(choice: Choice) -> InTurn
+    ensures { λ r. ⌜ r ≡ come-to choice ⌝ }
+{
+    match choice {
+        Choice::Row {
+            group,
+            start,
+            mask: _,
+        } => InTurn { group, lane: start },
+        Choice::GoOn { group } => InTurn { group, lane: 0 },
+    }
+}
+
+impl Scheduler for InTurn as InTurnScheduler {
+    ghost knows = { λ s n d. Passed n d (s .group) (s .lane) };
+
+    fn next(&mut self, steps: &[u32], lines: usize, z: Sizes, lanes: &[u32]) -> Option<Choice> {
+        let Some(choice) = find_from(steps, lines, z, lanes, self.group, self.lane) else {
+            return None;
+        };
+        *self = came_to(choice);
+        Some(choice)
+    }
 }

@@ -1,7 +1,7 @@
 // The machine: its schedulers name turns, the executor does them, touches are looked at, and what is told is right.
+pub mod exec;
 pub mod inturn;
 pub mod look;
-pub mod exec;
 pub mod note;
 pub mod outcome;
 pub mod schedule;

@@ -3,3 +3,5 @@ pub mod Named
 pub mod Listed
 pub mod Runs
 pub mod Begins
+pub mod Walks
+pub mod Atoms

@@ -10,11 +10,11 @@ use Rattle.std.proofs.shelf.Lists.{at-drop-more, getD-drop}
 use Rattle.grammar.specs.Spelling.{digit, decimal}
 use Rattle.grammar.specs.Runs.{run-of}
 
-run-step : (f : ℕ → Bool) (b : ℕ) (bs : List ℕ) → f b ≡ true → run-of f (b ∷ bs) ≡ suc (run-of f bs)
+pub run-step : (f : ℕ → Bool) (b : ℕ) (bs : List ℕ) → f b ≡ true → run-of f (b ∷ bs) ≡ suc (run-of f bs)
 unfolding run-of
 run-step f b bs h = rw h
 
-run-stop : (f : ℕ → Bool) (b : ℕ) (bs : List ℕ) → f b ≡ false → run-of f (b ∷ bs) ≡ 0
+pub run-stop : (f : ℕ → Bool) (b : ℕ) (bs : List ℕ) → f b ≡ false → run-of f (b ∷ bs) ≡ 0
 unfolding run-of
 run-stop f b bs h = rw h
 
@@ -23,7 +23,7 @@ run-more f t j lt h =
     let e : run-of f (drop j t) ≡ suc (run-of f (drop (j + 1) t)) = at-drop-more (run-of f) t j 0 lt ∙ run-step f (getD t j 0) (drop (j + 1) t) h in
     omega (arith, e)
 
-run-nil : (f : ℕ → Bool) → run-of f [] ≡ 0
+pub run-nil : (f : ℕ → Bool) → run-of f [] ≡ 0
 unfolding run-of
 run-nil f = refl
 

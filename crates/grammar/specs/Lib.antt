@@ -4,3 +4,5 @@ pub mod Words
 pub mod Names
 pub mod Taken
 pub mod Runs
+pub mod Refusals
+pub mod Walk

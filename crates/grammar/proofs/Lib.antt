@@ -5,3 +5,4 @@ pub mod Runs
 pub mod Begins
 pub mod Walks
 pub mod Atoms
+pub mod Linewalks

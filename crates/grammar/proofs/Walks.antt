@@ -12,7 +12,7 @@ use Rattle.std.specs.Orderings.{Decides}
 use Rattle.std.specs.Options.{Cases}
 use Rattle.std.specs.declared.option.Option.{Option}
 use Rattle.std.specs.declared.option.Option.the-variants.{Some, None}
-use Rattle.std.proofs.shelf.Lists.{take-append-drop, length-take-le, length-drop}
+use Rattle.std.proofs.shelf.Lists.{take-append-drop, length-take-le, length-drop, drop-all}
 use Rattle.std.proofs.shelf.Equals.{compares-decides}
 use Rattle.std.proofs.shelf.Ways.{not-from-decides}
 use Rattle.std.proofs.shelf.Tests.{both-ways, le-leb, lt-leb, eq-eqb, ne-eqb}
@@ -168,3 +168,10 @@ pub bytes-not : (text : List ℕ) (bs : List ℕ) (b i : ℕ) → (getD text i 0
 unfolding bytes-at
 bytes-not text bs b i (inl h) = rw (ne-eqb (getD text i 0) b h)
 bytes-not text bs b i (inr h) = grind (arith, tells)
+
+key-nil : None ≡ key-of (take (run-of word-byte []) [])
+unfolding key-of same-bytes run-of
+key-nil = refl
+
+pub key-past : (text : List ℕ) (i : ℕ) → length text ≤ i → None ≡ key-at text i
+key-past text i h = rw (drop-all i text h) key-nil

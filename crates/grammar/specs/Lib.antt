@@ -6,3 +6,4 @@ pub mod Taken
 pub mod Runs
 pub mod Refusals
 pub mod Walk
+pub mod WalkLine

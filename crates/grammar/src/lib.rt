@@ -2,6 +2,7 @@
 pub mod bytes;
 pub mod exprs;
 pub mod keywords;
+pub mod lines;
 pub mod names;
 pub mod numbers;
 pub mod refusals;

@@ -1,8 +1,7 @@
 // What stands at a byte: a word with its meaning, or bytes that must be there.
 ghost use mathlib.Core.Path.{_≡_};
 ghost use mathlib.Core.List.{List};
-ghost use Prim.Native.Nat.{ℕ, _≤_};
-ghost use lib.ListN.{length};
+ghost use Prim.Native.Nat.{ℕ};
 ghost use Rattle.grammar.specs.Names.{Names-in};
 ghost use Rattle.grammar.specs.Walk.{place-in, word-at, bytes-at, key-at};
 use crate::bytes::byte;
@@ -49,7 +48,7 @@ pub fn read_word(text: &[u8], i: usize) -> Result<Token, Refusal>
 
 // The word of the language at byte i, if one stands there.
 pub fn key_here(text: &[u8], i: usize) -> Option<Keyword>
-    ensures { λ r. ⌜ (i ≤ length (now (text .entry)) → r ≡ key-at (now (text .entry)) i) ⌝ }
+    ensures { λ r. ⌜ r ≡ key-at (now (text .entry)) i ⌝ }
 {
     if i > text.len() {
         return None;

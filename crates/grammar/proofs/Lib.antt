@@ -6,3 +6,7 @@ pub mod Begins
 pub mod Walks
 pub mod Atoms
 pub mod Linewalks
+pub mod Complete
+pub mod Spelled
+pub mod Linedone
+pub mod Linehere

@@ -78,7 +78,7 @@ word-end-run text i r w =
 abbrev pub Keyed : List ℕ → Option Keyword → Type 0
 Keyed w r = Cases r ((k : Keyword) → w ≡ written k → ⊥) (λ k. w ≡ written k)
 
-key-written : (k : Keyword) → key-of (written k) ≡ Some k
+pub key-written : (k : Keyword) → key-of (written k) ≡ Some k
 unfolding key-of same-bytes
 key-written Own = refl
 key-written Cells = refl

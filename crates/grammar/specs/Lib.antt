@@ -7,3 +7,4 @@ pub mod Runs
 pub mod Refusals
 pub mod Walk
 pub mod WalkLine
+pub mod Lines

@@ -10,3 +10,7 @@ pub mod Complete
 pub mod Spelled
 pub mod Linedone
 pub mod Linehere
+pub mod Sound
+pub mod Soundexpr
+pub mod Soundline
+pub mod Nameds

@@ -1,9 +1,14 @@
 // One line of a text.
 ghost use mathlib.Core.Path.{_≡_};
 ghost use mathlib.Core.List.{List};
-ghost use Prim.Native.Nat.{ℕ};
+ghost use Prim.Native.Nat.{ℕ, _+_, _≤_};
 ghost use lib.ListN.{length};
+ghost use Rattle.std.specs.Vec.{made};
+ghost use Rattle.std.specs.declared.result.Result.the-variants.{Ok};
+ghost use Rattle.grammar.specs.Lines.{Line-here};
 ghost use Rattle.grammar.specs.Names.{Names-in};
+ghost use Rattle.grammar.specs.Spelling.{Named};
+ghost use Rattle.grammar.specs.Taken.{Distinct};
 ghost use Rattle.grammar.specs.Walk.{place-in};
 ghost use Rattle.grammar.specs.WalkLine.{cell-kind, with-expr, closed, assign-at, write-at, by-key, bare-at, within-line, line-at};
 use crate::exprs::read_expr;
@@ -143,9 +148,13 @@ pub fn within_line(pos: usize, found: Result<Lined, Refusal>) -> Result<Lined, R
     }
 }
 
-// The line at byte pos.
+// The line at byte pos. For names ns that are distinct and stand in the text's first line, it is the line that
+// stands there (`Line-here`, with its expressions' bytes and the byte of the next line), and a line of up to 1,024 bytes
+// that stands there is answered: exactly it.
 pub fn parse_line(text: &[u8], pos: usize) -> Result<Lined, Refusal>
-    ensures { λ r. ⌜ ((ns : List (List ℕ)) → Names-in ns (now (text .entry)) → r ≡ line-at (place-in ns) (now (text .entry)) pos) ⌝ }
+    ensures walk { λ r. ⌜ ((ns : List (List ℕ)) → Names-in ns (now (text .entry)) → r ≡ line-at (place-in ns) (now (text .entry)) pos) ⌝ }
+    ensures stands { λ r. ⌜ ((ns : List (List ℕ)) → Names-in ns (now (text .entry)) → made r (λ l. Line-here (Named ns) (length ns) (now (text .entry)) pos (l .line) (l .next) × (l .next ≤ pos + 1025))) ⌝ }
+    ensures found { λ r. ⌜ ((ns : List (List ℕ)) (l : Line) (n : ℕ) → Names-in ns (now (text .entry)) → Distinct ns → Line-here (Named ns) (length ns) (now (text .entry)) pos l n → n ≤ pos + 1025 → r ≡ Ok (record { line = l; next = n })) ⌝ }
 {
     within_line(pos, bare_line(text, pos))
 }

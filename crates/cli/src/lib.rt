@@ -1,4 +1,6 @@
 // What the programs share: the words behind their name, and reading a file with a message that names it.
+pub mod spot;
+
 ghost use Prim.Native.Nat.{_^_, _<_, _≤_};
 ghost use Rattle.std.specs.Of.Vec.{vec-len};
 ghost use Rattle.std.specs.Options.{Cases as BySome};

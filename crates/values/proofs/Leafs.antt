@@ -15,30 +15,30 @@ use Rattle.values.specs.Rows.{Owned, Values, Leaf-worth}
 module _ (leaf : Leaf) (own : List ℕ) (r : Row) (out : List ℕ) where
   pub worth-fixed : (a : ℕ) → leaf ≡ Fixed a → ((i : ℕ) → i < length out → getD out i 0 ≡ a) → Leaf-worth leaf own r out
   unfolding Values value
-  worth-fixed a q h ns e le is =
-      let known = subst (λ (x : Leaf). Leaf-is ns x e) q is in
+  worth-fixed a q h e is =
+      let known = subst (λ (x : Leaf). Leaf-is (r .owns) x e) q is in
       λ i hi v o. h i hi ∙ known .2 ∙ ap (value v (r .first + i) (r .group) (r .lanes)) (sym (known .1))
 
   pub worth-own : (k : ℕ) → leaf ≡ Own k → ((i : ℕ) → i < length out → getD out i 0 ≡ getD own (r .base + k * r .stride + i) 0) → Leaf-worth leaf own r out
   unfolding Values value
-  worth-own k q h ns e le is =
-      let known = subst (λ (x : Leaf). Leaf-is ns x e) q is in
-      λ i hi v o. h i hi ∙ sym (o k (omega (arith, known .1, le))) ∙ ap (value v (r .first + i) (r .group) (r .lanes)) (sym (known .0))
+  worth-own k q h e is =
+      let known = subst (λ (x : Leaf). Leaf-is (r .owns) x e) q is in
+      λ i hi v o. h i hi ∙ sym (o k (known .1)) ∙ ap (value v (r .first + i) (r .group) (r .lanes)) (sym (known .0))
 
   pub worth-lane : leaf ≡ Lane → ((i : ℕ) → i < length out → getD out i 0 ≡ r .first + i) → Leaf-worth leaf own r out
   unfolding Values value
-  worth-lane q h ns e le is =
-      let known = subst (λ (x : Leaf). Leaf-is ns x e) q is in
+  worth-lane q h e is =
+      let known = subst (λ (x : Leaf). Leaf-is (r .owns) x e) q is in
       λ i hi v o. h i hi ∙ ap (value v (r .first + i) (r .group) (r .lanes)) (sym known)
 
   pub worth-group : leaf ≡ Group → ((i : ℕ) → i < length out → getD out i 0 ≡ r .group) → Leaf-worth leaf own r out
   unfolding Values value
-  worth-group q h ns e le is =
-      let known = subst (λ (x : Leaf). Leaf-is ns x e) q is in
+  worth-group q h e is =
+      let known = subst (λ (x : Leaf). Leaf-is (r .owns) x e) q is in
       λ i hi v o. h i hi ∙ ap (value v (r .first + i) (r .group) (r .lanes)) (sym known)
 
   pub worth-lanes : leaf ≡ Lanes → ((i : ℕ) → i < length out → getD out i 0 ≡ r .lanes) → Leaf-worth leaf own r out
   unfolding Values value
-  worth-lanes q h ns e le is =
-      let known = subst (λ (x : Leaf). Leaf-is ns x e) q is in
+  worth-lanes q h e is =
+      let known = subst (λ (x : Leaf). Leaf-is (r .owns) x e) q is in
       λ i hi v o. h i hi ∙ ap (value v (r .first + i) (r .group) (r .lanes)) (sym known)

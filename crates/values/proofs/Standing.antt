@@ -21,6 +21,7 @@ use Rattle.grammar.proofs.Scanned.{byte-at, at-part, behind-part, word-ends}
 use Rattle.values.specs.declared.ops.Op.{Op}
 use Rattle.values.specs.declared.ops.Op.the-variants.{Plus, Minus, Times, Over, Rest, Less, Same}
 use Rattle.values.specs.declared.leaves.Leaf.{Leaf}
+use Rattle.values.specs.declared.leaves.Leaf.the-variants.{Fixed, Own, Lane, Group, Lanes}
 use Rattle.values.specs.declared.row.Row.{Row}
 use Rattle.values.specs.Ops.{op-of, node, byte-of, Op-at, Applied}
 use Rattle.values.specs.Worth.{simple, Leaf-is, Leaf-at}
@@ -71,8 +72,16 @@ module _ (ns : List (List ℕ)) (text : List ℕ) (n : Names-in ns text) (i : �
     pub word-part : between i j text ≡ s .spelling
     word-part = ap (λ t. take (j - i) t) (s .here) ∙ take-at (s .spelling) (s .behind) (j - i) (omega (arith, word-stop))
 
-    pub word-leaf : (leaf : Leaf) → Distinct ns → Leaf-at simple text (between i j text) leaf → Leaf-is ns leaf e
+    pub word-leaf : (leaf : Leaf) → Distinct ns → Leaf-at simple text (between i j text) leaf → Leaf-is (length ns) leaf e
     word-leaf leaf di at = at ns n di e (subst (λ (t : List ℕ). Spells-expr (Named ns) e t) (sym word-part) (s .spells)) (is-word h)
+
+-- An own number below one bound is below a larger one.
+pub leaf-more : (m n : ℕ) (leaf : Leaf) (e : Expr) → m ≤ n → Leaf-is m leaf e → Leaf-is n leaf e
+leaf-more m n (Fixed a) e h is = is
+leaf-more m n (Own k) e h is = (is .0, omega (arith, is .1))
+leaf-more m n Lane e h is = is
+leaf-more m n Group e h is = is
+leaf-more m n Lanes e h is = is
 
 pub word-evaluated : (text : List ℕ) (i : ℕ) (own : List ℕ) (r : Row) (out : List ℕ) (j : ℕ) (leaf : Leaf) → getD text i 0 ≢ 40 → Word-end text i j → Leaf-at simple text (between i j text) leaf → Leaf-worth leaf own r out → Evaluated text i own r out j
 word-evaluated text i own r out j leaf h we at worth =
@@ -80,7 +89,7 @@ word-evaluated text i own r out j leaf h we at worth =
       from = we .from;
       within = we .within;
       stop = λ ns n di le e s. word-stop ns text n i e s h j we;
-      each = λ ns n di le e s. worth ns e le (word-leaf ns text n i e s h j we leaf di at);
+      each = λ ns n di le e s. worth e (leaf-more (length ns) (r .owns) leaf e le (word-leaf ns text n i e s h j we leaf di at));
     }
 
 pub none-evaluated : (text : List ℕ) (i : ℕ) (own : List ℕ) (r : Row) (out : List ℕ) → length text ≤ i → Evaluated text i own r out i

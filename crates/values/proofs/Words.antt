@@ -70,7 +70,7 @@ module _ (text u : List ℕ) (b : ℕ) (first : 1 ≤ length u → b ≡ getD u 
   -- A word that begins with a digit is a number.
   pub number-leaf : (r : ℕ) → digit b ≡ true → r ≡ decimal 0 u % whole → Leaf-at plain text u (Fixed r)
   number-leaf r d q ns n di =
-      plain-cases ns u (Leaf-is ns (Fixed r)) (λ a i. (a, refl, q ∙ ap (λ m. m % whole) (i .value)))
+      plain-cases ns u (Leaf-is (length ns) (Fixed r)) (λ a i. (a, refl, q ∙ ap (λ m. m % whole) (i .value)))
       (λ k m.
       let is = n .names k (m .0) in
       let some : 1 ≤ length u = omega (arith, is .some, ap length (m .1)) in
@@ -82,12 +82,12 @@ module _ (text u : List ℕ) (b : ℕ) (first : 1 ≤ length u → b ≡ getD u 
   -- Any other is a name.
   pub name-leaf : (k : ℕ) → digit b ≡ false → ((ns : List (List ℕ)) → Names-in ns text → First-at ns u k) → Leaf-at plain text u (Own k)
   name-leaf k d f ns n di =
-      plain-cases ns u (Leaf-is ns (Own k)) (λ a i. absurd (not-number a d i))
+      plain-cases ns u (Leaf-is (length ns) (Own k)) (λ a i. absurd (not-number a d i))
       (λ j m. (ap var (di j k (m .0) (f ns n .there) (sym (m .1) ∙ sym (f ns n .is))), f ns n .there))
 
   pub no-leaf : digit b ≡ false → ((ns : List (List ℕ)) → Names-in ns text → (k : ℕ) → k < length ns → getD ns k [] ≢ u) → Leaf-at plain text u (Fixed 0)
   no-leaf d f ns n di =
-      plain-cases ns u (Leaf-is ns (Fixed 0)) (λ a i. absurd (not-number a d i)) (λ j m. absurd (f ns n j (m .0) (sym (m .1))))
+      plain-cases ns u (Leaf-is (length ns) (Fixed 0)) (λ a i. absurd (not-number a d i)) (λ j m. absurd (f ns n j (m .0) (sym (m .1))))
 
 module _ (text u w : List ℕ) (q : u ≡ w) (no-digit : digit (getD w 0 0) ≡ false) (word : one-of keywords w ≡ true) where
   -- A word of the language is no number and no name.
@@ -100,23 +100,23 @@ module _ (text u w : List ℕ) (q : u ≡ w) (no-digit : digit (getD w 0 0) ≡ 
 pub lane-leaf : (text u : List ℕ) → u ≡ codes "lane" → Leaf-at simple text u Lane
 unfolding one-of keywords same-bytes
 lane-leaf text u q ns n di =
-    word-cases ns u (Leaf-is ns Lane) (λ a i. absurd (no-number text u (codes "lane") q refl refl a i)) (λ k m. absurd (no-name text u (codes "lane") q refl refl ns n k m))
+    word-cases ns u (Leaf-is (length ns) Lane) (λ a i. absurd (no-number text u (codes "lane") q refl refl a i)) (λ k m. absurd (no-name text u (codes "lane") q refl refl ns n k m))
     (λ _. refl) (λ p. absurd (omega (arith, ap length (sym q ∙ p)))) (λ p. absurd (omega (arith, ap length (sym q ∙ p))))
 
 pub group-leaf : (text u : List ℕ) → u ≡ codes "group" → Leaf-at simple text u Group
 unfolding one-of keywords same-bytes
 group-leaf text u q ns n di =
-    word-cases ns u (Leaf-is ns Group) (λ a i. absurd (no-number text u (codes "group") q refl refl a i)) (λ k m. absurd (no-name text u (codes "group") q refl refl ns n k m))
+    word-cases ns u (Leaf-is (length ns) Group) (λ a i. absurd (no-number text u (codes "group") q refl refl a i)) (λ k m. absurd (no-name text u (codes "group") q refl refl ns n k m))
     (λ p. absurd (omega (arith, ap length (sym q ∙ p)))) (λ _. refl) (λ p. absurd (omega (arith, ap (λ t. getD t 0 0) (sym q ∙ p))))
 
 pub lanes-leaf : (text u : List ℕ) → u ≡ codes "lanes" → Leaf-at simple text u Lanes
 unfolding one-of keywords same-bytes
 lanes-leaf text u q ns n di =
-    word-cases ns u (Leaf-is ns Lanes) (λ a i. absurd (no-number text u (codes "lanes") q refl refl a i)) (λ k m. absurd (no-name text u (codes "lanes") q refl refl ns n k m))
+    word-cases ns u (Leaf-is (length ns) Lanes) (λ a i. absurd (no-number text u (codes "lanes") q refl refl a i)) (λ k m. absurd (no-name text u (codes "lanes") q refl refl ns n k m))
     (λ p. absurd (omega (arith, ap length (sym q ∙ p)))) (λ p. absurd (omega (arith, ap (λ t. getD t 0 0) (sym q ∙ p)))) (λ _. refl)
 
 -- A word that is no word of the language.
 pub other-leaf : (text u : List ℕ) (r : Leaf) → (u ≡ codes "lane" → ⊥) → (u ≡ codes "group" → ⊥) → (u ≡ codes "lanes" → ⊥) → Leaf-at plain text u r → Leaf-at simple text u r
 unfolding Spells-expr
 other-leaf text u r l g s p ns n di =
-    word-cases ns u (Leaf-is ns r) (λ a i. p ns n di (fixed a) i refl) (λ k m. p ns n di (var k) m refl) (λ q. absurd (l q)) (λ q. absurd (g q)) (λ q. absurd (s q))
+    word-cases ns u (Leaf-is (length ns) r) (λ a i. p ns n di (fixed a) i refl) (λ k m. p ns n di (var k) m refl) (λ q. absurd (l q)) (λ q. absurd (g q)) (λ q. absurd (s q))

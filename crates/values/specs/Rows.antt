@@ -27,8 +27,9 @@ unfoldable pub Values : Row → List ℕ → Expr → List ℕ → Type 0
 Values r own e out =
     (i : ℕ) → i < length out → (v : List ℕ) → Owned r own i v → getD out i 0 ≡ value v (r .first + i) (r .group) (r .lanes) e
 
+-- What a leaf is worth, for each lane.
 abbrev pub Leaf-worth : Leaf → List ℕ → Row → List ℕ → Type 0
-Leaf-worth leaf own r out = (ns : List (List ℕ)) (e : Expr) → length ns ≤ r .owns → Leaf-is ns leaf e → Values r own e out
+Leaf-worth leaf own r out = (e : Expr) → Leaf-is (r .owns) leaf e → Values r own e out
 
 -- What evaluating at byte i promises, where it stops at byte j: for every expression that stands there, the values for each lane, and
 -- that the expression ends at j.

@@ -41,14 +41,14 @@ plain (rest-of e f) = false
 plain (less e f) = false
 plain (same e f) = false
 
--- The leaf is this expression; a number modulo 2^32, an own number by its place among the names ns.
-abbrev pub Leaf-is : List (List ℕ) → Leaf → Expr → Type 0
-Leaf-is ns (Fixed a) e = (b : ℕ) × (e ≡ fixed b) × (a ≡ b % whole)
-Leaf-is ns (Own k) e = (e ≡ var k) × (k < length ns)
-Leaf-is ns Lane e = e ≡ lane
-Leaf-is ns Group e = e ≡ group
-Leaf-is ns Lanes e = e ≡ lanes
+-- The leaf is this expression; a number modulo 2^32, an own number by its place, which is below `owns`.
+abbrev pub Leaf-is : ℕ → Leaf → Expr → Type 0
+Leaf-is owns (Fixed a) e = (b : ℕ) × (e ≡ fixed b) × (a ≡ b % whole)
+Leaf-is owns (Own k) e = (e ≡ var k) × (k < owns)
+Leaf-is owns Lane e = e ≡ lane
+Leaf-is owns Group e = e ≡ group
+Leaf-is owns Lanes e = e ≡ lanes
 
 -- The leaf is what the word u of the text spells, if that is an expression of the kind f.
 abbrev pub Leaf-at : (Expr → Bool) → List ℕ → List ℕ → Leaf → Type 0
-Leaf-at f text u r = (ns : List (List ℕ)) → Names-in ns text → Distinct ns → (e : Expr) → Spells-expr (Named ns) e u → f e ≡ true → Leaf-is ns r e
+Leaf-at f text u r = (ns : List (List ℕ)) → Names-in ns text → Distinct ns → (e : Expr) → Spells-expr (Named ns) e u → f e ≡ true → Leaf-is (length ns) r e

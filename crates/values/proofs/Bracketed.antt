@@ -22,7 +22,7 @@ use Rattle.values.proofs.Spelt.{Halves, halves}
 use Rattle.values.proofs.Standing.{is-bracket, in-text}
 
 -- What a bracket is worth.
-value-node : (op : Op) (v : List ℕ) (l g n : ℕ) (e f : Expr) → value v l g n (node op e f) ≡ op-of op (value v l g n e) (value v l g n f)
+pub value-node : (op : Op) (v : List ℕ) (l g n : ℕ) (e f : Expr) → value v l g n (node op e f) ≡ op-of op (value v l g n e) (value v l g n f)
 unfolding value
 value-node Plus v l g n e f = refl
 value-node Minus v l g n e f = refl

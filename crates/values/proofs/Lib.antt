@@ -4,3 +4,5 @@ mod Leafs
 mod Spelt
 mod Standing
 mod Bracketed
+mod Coding
+mod Unpacking

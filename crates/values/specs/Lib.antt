@@ -1,3 +1,4 @@
 pub mod Ops
 pub mod Worth
 pub mod Rows
+pub mod Items

@@ -8,6 +8,7 @@ ghost use Rattle.std.specs.Vec.{made};
 use std::env;
 use std::fs;
 use std::io;
+use std::io::Read;
 
 // The words behind the program's name. None: it was asked for help, and its usage stands on standard output.
 // Too few or too many: the usage stands on standard error.
@@ -44,4 +45,13 @@ pub fn read(rt: &LibcRuntime, path: &str) -> io::Result<Vec<u8>>
             Err(why)
         }
     }
+}
+
+// The bytes of standard input.
+pub fn read_stdin(rt: &LibcRuntime) -> io::Result<Vec<u8>>
+    ensures { λ r. ⌜ made r (λ v. vec-len v < 2 ^ 64) ⌝ }
+{
+    let mut bytes = Vec::new(rt.alloc());
+    rt.stdin().read_to_end(&mut bytes)?;
+    Ok(bytes)
 }

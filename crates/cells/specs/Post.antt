@@ -1,0 +1,18 @@
+-- What is read into a lent slice.
+use mathlib.Core.Path.{_≡_}
+use mathlib.Core.Bool.{Bool}
+use mathlib.Core.List.{List}
+use Prim.Native.Nat.{ℕ, _≤_}
+use lib.Dec.{eqb}
+use lib.ListN.{length, take, drop}
+use Rattle.std.specs.declared.result.Result.{Result}
+use Rattle.std.specs.declared.result.Result.the-variants.{Ok, Err}
+
+-- As many cells as are told stand at the front, they are those of the text, and behind them nothing changed; or the byte is the text's first bad one.
+abbrev pub Reads : Result (List ℕ) ℕ → List ℕ → List ℕ → Result ℕ ℕ → Type 0
+Reads read before after (Ok n) = (n ≤ length after) × (read ≡ Ok (take n after)) × (drop n after ≡ drop n before)
+Reads read before after (Err i) = read ≡ Err i
+
+-- The byte at the end of a line.
+abbrev pub is-end : ℕ → Bool
+is-end c = eqb c 10

@@ -5,3 +5,4 @@ mod Stances
 mod Masked
 mod Passing
 mod Ones
+mod Settling

@@ -3,3 +3,4 @@ pub mod Line
 pub mod Choices
 pub mod Masks
 pub mod Schedule
+pub mod Moves

@@ -4,4 +4,5 @@ pub mod inturn;
 pub mod look;
 pub mod note;
 pub mod outcome;
+pub mod release;
 pub mod schedule;

@@ -6,3 +6,4 @@ mod Masked
 mod Passing
 mod Ones
 mod Settling
+mod Going

@@ -31,3 +31,30 @@ pub fn settle_lane(steps: &[u32], lines: usize, z: Sizes, lanes: &mut [u32], g: 
         stand(z, lanes, g, l, entry as u32);
     }
 }
+
+// So do all lanes of a group.
+fn settle_group(steps: &[u32], lines: usize, z: Sizes, lanes: &mut [u32], g: usize)
+    requires sized { ⌜ Sized z ⌝ }
+    requires fit { ⌜ room z ≤ length (now lanes) ⌝ }
+    requires few { ⌜ lines < 4294967295 ⌝ }
+    requires group { ⌜ g < z .groups ⌝ }
+    ensures { λ _. ⌜ Group-settled z (now (steps .entry)) lines g (z .lanes) (now (lanes .entry)) (now (lanes .exit)) ⌝ }
+{
+    for l in 0..z.lanes {
+        settle_lane(steps, lines, z, lanes, g, l);
+    }
+}
+
+// A group that can go on goes on.
+pub fn release(steps: &[u32], lines: usize, z: Sizes, lanes: &mut [u32], g: usize)
+    requires sized { ⌜ Sized z ⌝ }
+    requires fit { ⌜ room z ≤ length (now lanes) ⌝ }
+    requires few { ⌜ lines < 4294967290 ⌝ }
+    requires group { ⌜ g < z .groups ⌝ }
+    requires phase { ⌜ phase-of z (now lanes) g < 18446744073709551615 ⌝ }
+    requires runs { ⌜ ((at : ℕ → Body) × Runs z at (now steps) lines (now lanes)) ⌝ }
+    ensures { λ _. ⌜ Went-on z (now (steps .entry)) lines g (now (lanes .entry)) (now (lanes .exit)) ⌝ }
+{
+    settle_group(steps, lines, z, lanes, g);
+    go_on(z, lanes, g);
+}

@@ -7,3 +7,7 @@ mod Passing
 mod Ones
 mod Settling
 mod Going
+mod Bits
+mod Working
+mod Planned
+mod Lined

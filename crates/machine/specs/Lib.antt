@@ -4,3 +4,4 @@ pub mod Choices
 pub mod Masks
 pub mod Schedule
 pub mod Moves
+pub mod Plans

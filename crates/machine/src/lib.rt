@@ -2,6 +2,7 @@
 pub mod exec;
 pub mod inturn;
 pub mod look;
+pub mod line;
 pub mod note;
 pub mod outcome;
 pub mod release;

@@ -2,3 +2,5 @@ pub mod Left
 pub mod Rights
 pub mod Entries
 pub mod Chains
+pub mod Texts
+pub mod Exprs

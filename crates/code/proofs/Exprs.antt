@@ -19,10 +19,10 @@ use Rattle.grammar.proofs.Scanned.{byte-at, word-ends}
 use Rattle.code.specs.Scan.{in-line, closing, Ends-at}
 use Rattle.code.proofs.Texts.{closing-plain, closing-open, closing-shut, closing-last, drop-on, first-byte, each-append, each-weaken}
 
-digit-word : (b : ℕ) → digit b ≡ true → word-byte b ≡ true
+pub digit-word : (b : ℕ) → digit b ≡ true → word-byte b ≡ true
 digit-word b h = or-right (letter b) (digit b) h
 
-word-in-line : (b : ℕ) → word-byte b ≡ true → in-line b ≡ true
+pub word-in-line : (b : ℕ) → word-byte b ≡ true → in-line b ≡ true
 word-in-line b h = grind (arith, tells)
 
 word-open : (b : ℕ) → word-byte b ≡ true → b ≢ 40
@@ -107,7 +107,7 @@ module _ (N : ℕ → List ℕ → Type 0) (names : (k : ℕ) (u : List ℕ) →
   form (less e f) t s = whole e f 60 t (s .0) (s .1) (s .4) (omega arith) (omega arith) (s .2) (s .3)
   form (same e f) t s = whole e f 61 t (s .0) (s .1) (s .4) (omega arith) (omega arith) (s .2) (s .3)
 
-  first-of : (u z : List ℕ) → 1 ≤ length u → getD (u ++ z) 0 0 ≡ getD u 0 0
+  pub first-of : (u z : List ℕ) → 1 ≤ length u → getD (u ++ z) 0 0 ≡ getD u 0 0
   first-of u z h = getD-append-left u z 0 0 (omega arith)
 
   -- Where a bracket stands the expression ends where it closes; elsewhere it is a word.
@@ -124,7 +124,7 @@ module _ (N : ℕ → List ℕ → Type 0) (names : (k : ℕ) (u : List ℕ) →
         [ word p n ↦ drop-on text (s .spelling) (s .behind) x y (s .here) (word-ends text x y (s .spelling) (s .behind) w (s .here) p (s .apart))
         | bracket p n c ↦ absurd (h (first-byte text _ x (s .here) ∙ first-of (s .spelling) (s .behind) n ∙ p)) ]
 
-named-names : (ns : List (List ℕ)) → ((k : ℕ) → k < length ns → Is-name (getD ns k [])) → (k : ℕ) (u : List ℕ) → Named ns k u → Is-name u
+pub named-names : (ns : List (List ℕ)) → ((k : ℕ) → k < length ns → Is-name (getD ns k [])) → (k : ℕ) (u : List ℕ) → Named ns k u → Is-name u
 named-names ns h k u n = rw (n .1) (h k (n .0))
 
 pub bracket-ends : (text : List ℕ) (x y : ℕ) → getD text x 0 ≡ 40 → y ≡ x + closing 0 (drop x text) → Ends-at text x y

@@ -1,5 +1,6 @@
 -- Laws of what is left at an entry.
 use mathlib.Core.Path.{_≡_, refl, sym, _∙_, ap}
+use mathlib.Core.Logic.{inl, inr}
 use mathlib.Core.Bool.{Bool, true, false, cond}
 use Prim.Native.Nat.{ℕ, zero, suc, _+_, _-_, _≤_, _<_}
 use native.Mathlib.Omega.{arith}
@@ -103,3 +104,35 @@ left-last (write-all e f a) = left-last a
 left-last (barrier a) = left-last a
 left-last (when e c d a) = when-behind e c d a _ (lines-of a) refl ∙ left-last a
 left-last (while e c a) = while-behind e c a _ (lines-of a) refl ∙ left-last a
+
+pub ended-is : (d : Body) → ended d ≡ true → d ≡ end
+unfolding ended
+ended-is end h = refl
+ended-is (put k e b) h = cc
+ended-is (read-shared k e b) h = cc
+ended-is (write-shared e f b) h = cc
+ended-is (read-all k e b) h = cc
+ended-is (write-all e f b) h = cc
+ended-is (barrier b) h = cc
+ended-is (when e c d b) h = cc
+ended-is (while e c b) h = cc
+
+pub no-lines : (d : Body) → d ≡ end → lines-of d ≡ 0
+unfolding lines-of
+no-lines d q = ap lines-of q
+
+pub else-room : (d : Body) → lines-of d ≤ else-lines d
+else-room d = elim (cases-bool (ended d)) [ inl q ↦ omega (arith, no-lines d (ended-is d q)) | inr q ↦ omega (arith, else-some d q) ]
+
+-- A body without entries is empty.
+pub lines-none : (d : Body) → lines-of d ≡ 0 → ended d ≡ true
+unfolding lines-of ended
+lines-none end h = refl
+lines-none (put k e b) h = absurd (omega arith)
+lines-none (read-shared k e b) h = absurd (omega arith)
+lines-none (write-shared e f b) h = absurd (omega arith)
+lines-none (read-all k e b) h = absurd (omega arith)
+lines-none (write-all e f b) h = absurd (omega arith)
+lines-none (barrier b) h = absurd (omega arith)
+lines-none (when e c d b) h = absurd (omega arith)
+lines-none (while e c b) h = absurd (omega arith)

@@ -4,3 +4,9 @@ pub mod Entries
 pub mod Chains
 pub mod Texts
 pub mod Exprs
+pub mod Heads
+pub mod Tells
+pub mod Bodies
+pub mod Inside
+pub mod Makes
+pub mod Parts

@@ -2,3 +2,4 @@ pub mod Lines
 pub mod Words
 pub mod Code
 pub mod Scan
+pub mod Make

@@ -1,6 +1,7 @@
 // A program as steps in lent words: decoded, written, and made from a text.
 pub mod jumps;
 pub mod step;
+mod compile;
 mod scan;
 pub mod words;
 

@@ -36,6 +36,18 @@ abbrev pub branch-line : Bool → ℕ → Line
 branch-line false x = Test x
 branch-line true x = Loop x
 
+abbrev pub heading : Line → Bool
+heading Heading = true
+heading (Put k x) = false
+heading (Read f k x) = false
+heading (Write f x y) = false
+heading Wait = false
+heading (Test x) = false
+heading (Loop x) = false
+heading Otherwise = false
+heading Close = false
+heading Nothing = false
+
 abbrev pub branching : Line → Bool
 branching Heading = false
 branching (Put k x) = false
@@ -60,7 +72,7 @@ module _ (ns : List (List ℕ)) (text : List ℕ) (names : Names ns text) (at : 
     pub codes-on : (after : List ℕ) (o : ℕ) → entry-at after o ≡ plain-step r (suc o) → Codes (Named ns) text (length ns) (entry-at after) (suc o) rest → Codes (Named ns) text (length ns) (entry-at after) o b
 
   pub data Told (b : Body) : Type 0 where
-    halted : b ≡ end → stopping r ≡ true → Told b
+    halted : b ≡ end → stopping r ≡ true → heading r ≡ false → Told b
     plain : Plain b → Told b
     branch : (looped : Bool) (x : ℕ) → Branches ns text x looped b → r ≡ branch-line looped x → Told b
 
@@ -69,38 +81,38 @@ module _ (ns : List (List ℕ)) (text : List ℕ) (names : Names ns text) (at : 
   next-lies b u s h q p n l = record { spelt = s; spells = p; here = next-is text u (s ++ z) at n l h q }
 
   named-line : (b : Body) (k : ℕ) (e : Expr) (a m u s : List ℕ) → Named ns k a → each-byte in-line m ≡ true → Spells-expr (Named ns) e u → Spells-body (Named ns) b s
-    → drop at text ≡ a ++ (m ++ (u ++ (10 ∷ (s ++ z)))) → (n : ℕ) → Next-line text at n → Lies ns text n b z
+      → drop at text ≡ a ++ (m ++ (u ++ (10 ∷ (s ++ z)))) → (n : ℕ) → Next-line text at n → Lies ns text n b z
   named-line b k e a m u s na hm su sb h =
       next-lies b (a ++ (m ++ u)) s (h ∙ sym (append-assoc a (m ++ u) (10 ∷ (s ++ z)) ∙ ap (λ t. a ++ t) (append-assoc m u (10 ∷ (s ++ z)))))
-        (each-append in-line a (m ++ u) (named-in-line ns text names k a na) (each-append in-line m u hm (in-one-line ns text names e u su))) sb
+      (each-append in-line a (m ++ u) (named-in-line ns text names k a na) (each-append in-line m u hm (in-one-line ns text names e u su))) sb
 
   worded-line : (b : Body) (e : Expr) (m u s : List ℕ) → each-byte in-line m ≡ true → Spells-expr (Named ns) e u → Spells-body (Named ns) b s → drop at text ≡ m ++ (u ++ (10 ∷ (s ++ z)))
-    → (n : ℕ) → Next-line text at n → Lies ns text n b z
+      → (n : ℕ) → Next-line text at n → Lies ns text n b z
   worded-line b e m u s hm su sb h =
       next-lies b (m ++ u) s (h ∙ sym (append-assoc m u (10 ∷ (s ++ z)))) (each-append in-line m u hm (in-one-line ns text names e u su)) sb
 
   two-line : (b : Body) (e f : Expr) (m u v s : List ℕ) → each-byte in-line m ≡ true → Spells-expr (Named ns) e u → Spells-expr (Named ns) f v → Spells-body (Named ns) b s
-    → drop at text ≡ m ++ (u ++ (codes " = " ++ (v ++ (10 ∷ (s ++ z))))) → (n : ℕ) → Next-line text at n → Lies ns text n b z
+      → drop at text ≡ m ++ (u ++ (codes " = " ++ (v ++ (10 ∷ (s ++ z))))) → (n : ℕ) → Next-line text at n → Lies ns text n b z
   unfolding each-byte
   two-line b e f m u v s hm su sv sb h =
       next-lies b (m ++ (u ++ (codes " = " ++ v))) s
-        (h ∙ sym (append-assoc m (u ++ (codes " = " ++ v)) (10 ∷ (s ++ z)) ∙ ap (λ t. m ++ t) (append-assoc u (codes " = " ++ v) (10 ∷ (s ++ z)))))
-        (each-append in-line m (u ++ (codes " = " ++ v)) hm
-          (each-append in-line u (codes " = " ++ v) (in-one-line ns text names e u su) (each-append in-line (codes " = ") v refl (in-one-line ns text names f v sv)))) sb
+      (h ∙ sym (append-assoc m (u ++ (codes " = " ++ v)) (10 ∷ (s ++ z)) ∙ ap (λ t. m ++ t) (append-assoc u (codes " = " ++ v) (10 ∷ (s ++ z)))))
+      (each-append in-line m (u ++ (codes " = " ++ v)) hm
+      (each-append in-line u (codes " = " ++ v) (in-one-line ns text names e u su) (each-append in-line (codes " = ") v refl (in-one-line ns text names f v sv)))) sb
 
-  nothing-named : (e : ℕ) (o : Option ℕ) → Place-of ns [] o → Named-by text e o r → stopping r ≡ true
-  nothing-named e None p q = ap stopping q
-  nothing-named e (Some k) p q = absurd (omega (arith, names .there .names k (p .there) .some, ap length (p .is)))
+  nothing-named : (f : Line → Bool) (v : Bool) (e : ℕ) (o : Option ℕ) → f Nothing ≡ v → Place-of ns [] o → Named-by text e o r → f r ≡ v
+  nothing-named f v e None h p q = ap f q ∙ h
+  nothing-named f v e (Some k) h p q = absurd (omega (arith, names .there .names k (p .there) .some, ap length (p .is)))
 
-  -- What is behind a body stops it.
-  halting : drop at text ≡ z → Halts z → stopping r ≡ true
-  halting h (no-more q) =
+  -- What is behind a body is nothing, an else or an end.
+  halting : (f : Line → Bool) (v : Bool) → f Nothing ≡ v → f Otherwise ≡ v → f Close ≡ v → drop at text ≡ z → Halts z → f r ≡ v
+  halting f v a b c h (no-more q) =
       let w : between at (scan .stop) text ≡ [] = word-at text [] z at (scan .stop) (scan .ends) h each-none (ap (λ s. word-byte (getD s 0 0)) q) in
       let k : scan .word ≡ None = empty-word (scan .word) _ w (scan .is-word) in
       let by : Named-scan text at (scan .stop) r = subst (λ (w : Option Keyword). Scan-by text at (scan .stop) w r) k (scan .by) in
-      nothing-named (scan .stop) (by .own) (subst (λ (v : List ℕ). Place-of ns v (by .own)) w (by .is-own ns (names .there))) (by .by)
-  halting h (at-else w q) = ap stopping (keyword-scan text (10 ∷ w) at r Else scan (h ∙ q) refl .2)
-  halting h (at-end w q) = ap stopping (keyword-scan text (10 ∷ w) at r End scan (h ∙ q) refl .2)
+      nothing-named f v (scan .stop) (by .own) a (subst (λ (u : List ℕ). Place-of ns u (by .own)) w (by .is-own ns (names .there))) (by .by)
+  halting f v a b c h (at-else w q) = ap f (keyword-scan text (10 ∷ w) at r Else scan (h ∙ q) refl .2) ∙ b
+  halting f v a b c h (at-end w q) = ap f (keyword-scan text (10 ∷ w) at r End scan (h ∙ q) refl .2) ∙ c
 
   -- The text of a line with an expression, a body behind it, and z.
   behind-three : (a m u s t : List ℕ) → t ≡ a ++ (m ++ (u ++ (10 ∷ s))) → drop at text ≡ t ++ z → drop at text ≡ a ++ (m ++ (u ++ (10 ∷ (s ++ z))))
@@ -117,55 +129,87 @@ module _ (ns : List (List ℕ)) (text : List ℕ) (names : Names ns text) (at : 
 
   pub told : (b : Body) → Lies ns text at b z → Halts z → Told b
   unfolding Spells-body lines-of depth Codes each-byte
-  told end l h = halted refl (halting (l .here ∙ ap (λ t. t ++ z) (l .spells)) h)
+  told end l h =
+      let e : drop at text ≡ z = l .here ∙ ap (λ t. t ++ z) (l .spells) in
+      halted refl (halting stopping true refl refl refl e h) (halting heading false refl refl refl e h)
   told (put k e b) l h =
       let s = l .spells in
       let t = behind-three (s .0) (codes " = ") (s .1) (s .2) (l .spelt) (s .6) (l .here) in
       let v = put-line ns text names at r scan k e (s .0) (s .1) (s .2 ++ z) (s .3) (s .4) t in
       plain (record {
-        rest = b; goes = ap stopping (v .2); flat = ap branching (v .2); lines = refl; deep = omega arith;
+        rest = b;
+        goes = ap stopping (v .2);
+        flat = ap branching (v .2);
+        lines = refl;
+        deep = omega arith;
         next = named-line b k e (s .0) (codes " = ") (s .1) (s .2) (s .3) refl (s .4) (s .5) t;
-        codes-on = λ after o q c. (s .3 .0, (v .0, v .1, q ∙ ap (λ w. plain-step w (suc o)) (v .2)), c) })
+        codes-on = λ after o q c. (s .3 .0, (v .0, v .1, q ∙ ap (λ w. plain-step w (suc o)) (v .2)), c);
+      })
   told (read-shared k e b) l h =
       let s = l .spells in
       let t = behind-three (s .0) (codes " = cell ") (s .1) (s .2) (l .spelt) (s .6) (l .here) in
       let v = read-line ns text names at r scan k e (s .0) (s .1) (s .2 ++ z) (s .3) (s .4) t in
       plain (record {
-        rest = b; goes = ap stopping (v .2); flat = ap branching (v .2); lines = refl; deep = omega arith;
+        rest = b;
+        goes = ap stopping (v .2);
+        flat = ap branching (v .2);
+        lines = refl;
+        deep = omega arith;
         next = named-line b k e (s .0) (codes " = cell ") (s .1) (s .2) (s .3) refl (s .4) (s .5) t;
-        codes-on = λ after o q c. (s .3 .0, (v .0, v .1, q ∙ ap (λ w. plain-step w (suc o)) (v .2)), c) })
+        codes-on = λ after o q c. (s .3 .0, (v .0, v .1, q ∙ ap (λ w. plain-step w (suc o)) (v .2)), c);
+      })
   told (write-shared e f b) l h =
       let s = l .spells in
       let t = behind-four (codes "cell ") (s .0) (s .1) (s .2) (l .spelt) (s .6) (l .here) in
       let v = write-line ns text names at r scan e f (s .0) (s .1) (s .2 ++ z) (s .3) (s .4) t in
       plain (record {
-        rest = b; goes = ap stopping (v .4); flat = ap branching (v .4); lines = refl; deep = omega arith;
+        rest = b;
+        goes = ap stopping (v .4);
+        flat = ap branching (v .4);
+        lines = refl;
+        deep = omega arith;
         next = two-line b e f (codes "cell ") (s .0) (s .1) (s .2) refl (s .3) (s .4) (s .5) t;
-        codes-on = λ after o q c. ((v .0, v .1, v .2, v .3, q ∙ ap (λ w. plain-step w (suc o)) (v .4)), c) })
+        codes-on = λ after o q c. ((v .0, v .1, v .2, v .3, q ∙ ap (λ w. plain-step w (suc o)) (v .4)), c);
+      })
   told (read-all k e b) l h =
       let s = l .spells in
       let t = behind-three (s .0) (codes " = field ") (s .1) (s .2) (l .spelt) (s .6) (l .here) in
       let v = read-line-field ns text names at r scan k e (s .0) (s .1) (s .2 ++ z) (s .3) (s .4) t in
       plain (record {
-        rest = b; goes = ap stopping (v .2); flat = ap branching (v .2); lines = refl; deep = omega arith;
+        rest = b;
+        goes = ap stopping (v .2);
+        flat = ap branching (v .2);
+        lines = refl;
+        deep = omega arith;
         next = named-line b k e (s .0) (codes " = field ") (s .1) (s .2) (s .3) refl (s .4) (s .5) t;
-        codes-on = λ after o q c. (s .3 .0, (v .0, v .1, q ∙ ap (λ w. plain-step w (suc o)) (v .2)), c) })
+        codes-on = λ after o q c. (s .3 .0, (v .0, v .1, q ∙ ap (λ w. plain-step w (suc o)) (v .2)), c);
+      })
   told (write-all e f b) l h =
       let s = l .spells in
       let t = behind-four (codes "field ") (s .0) (s .1) (s .2) (l .spelt) (s .6) (l .here) in
       let v = write-line-field ns text names at r scan e f (s .0) (s .1) (s .2 ++ z) (s .3) (s .4) t in
       plain (record {
-        rest = b; goes = ap stopping (v .4); flat = ap branching (v .4); lines = refl; deep = omega arith;
+        rest = b;
+        goes = ap stopping (v .4);
+        flat = ap branching (v .4);
+        lines = refl;
+        deep = omega arith;
         next = two-line b e f (codes "field ") (s .0) (s .1) (s .2) refl (s .3) (s .4) (s .5) t;
-        codes-on = λ after o q c. ((v .0, v .1, v .2, v .3, q ∙ ap (λ w. plain-step w (suc o)) (v .4)), c) })
+        codes-on = λ after o q c. ((v .0, v .1, v .2, v .3, q ∙ ap (λ w. plain-step w (suc o)) (v .4)), c);
+      })
   told (barrier b) l h =
       let s = l .spells in
       let t : drop at text ≡ codes "barrier" ++ (10 ∷ (s .0 ++ z)) = l .here ∙ ap (λ v. v ++ z) (s .2) in
       let v = keyword-scan text (10 ∷ (s .0 ++ z)) at r Barrier scan t refl in
       plain (record {
-        rest = b; goes = ap stopping (v .2); flat = ap branching (v .2); lines = refl; deep = omega arith;
+        rest = b;
+        goes = ap stopping (v .2);
+        flat = ap branching (v .2);
+        lines = refl;
+        deep = omega arith;
         next = next-lies b (codes "barrier") (s .0) t refl (s .1);
-        codes-on = λ after o q c. (q ∙ ap (λ w. plain-step w (suc o)) (v .2), c) })
+        codes-on = λ after o q c. (q ∙ ap (λ w. plain-step w (suc o)) (v .2), c);
+      })
   told (when e c d b) l h =
       let s = l .spells in
       let t = behind-two (codes "if ") (s .0) _ (l .spelt) (s .8) (l .here) in

@@ -48,7 +48,7 @@ infix-length u v op = simp length-append (omega arith)
 
 -- The brackets of (u op v), whose parts go by.
 infix-passes : (u v : List ℕ) (op d : ℕ) (w : List ℕ) → op ≢ 40 → op ≢ 41 → ((t : List ℕ) → closing (suc d) (u ++ t) ≡ length u + closing (suc d) t)
-  → ((t : List ℕ) → closing (suc d) (v ++ t) ≡ length v + closing (suc d) t) → closing d (infix-of u op v ++ w) ≡ (4 + (length u + length v)) + closing (suc d) (41 ∷ w)
+    → ((t : List ℕ) → closing (suc d) (v ++ t) ≡ length v + closing (suc d) t) → closing d (infix-of u op v ++ w) ≡ (4 + (length u + length v)) + closing (suc d) (41 ∷ w)
 infix-passes u v op d w h k pu pv =
     let a = closing-open d 40 (u ++ (32 ∷ op ∷ 32 ∷ (v ++ (41 ∷ w)))) refl in
     let b = pu (32 ∷ op ∷ 32 ∷ (v ++ (41 ∷ w))) in
@@ -61,7 +61,7 @@ infix-passes u v op d w h k pu pv =
 module _ (N : ℕ → List ℕ → Type 0) (names : (k : ℕ) (u : List ℕ) → N k u → Is-name u) where
   -- Inside brackets a part goes by.
   inner : (u v : List ℕ) (op d : ℕ) (t w : List ℕ) → t ≡ infix-of u op v → op ≢ 40 → op ≢ 41 → ((s : List ℕ) → closing (suc (suc d)) (u ++ s) ≡ length u + closing (suc (suc d)) s)
-    → ((s : List ℕ) → closing (suc (suc d)) (v ++ s) ≡ length v + closing (suc (suc d)) s) → closing (suc d) (t ++ w) ≡ length t + closing (suc d) w
+      → ((s : List ℕ) → closing (suc (suc d)) (v ++ s) ≡ length v + closing (suc (suc d)) s) → closing (suc d) (t ++ w) ≡ length t + closing (suc d) w
   inner u v op d t w e h k pu pv =
       let q : closing (suc (suc d)) (41 ∷ w) ≡ suc (closing (suc d) w) = closing-shut (suc (suc d)) 41 w refl (omega arith) ∙ ap (λ n. suc (closing n w)) (omega arith) in
       rw (e, infix-length u v op, infix-passes u v op (suc d) w h k pu pv, q) (omega arith)
@@ -90,7 +90,7 @@ module _ (N : ℕ → List ℕ → Type 0) (names : (k : ℕ) (u : List ℕ) →
   whole e f op t u v q h k su sv =
       let n = infix-length u v op in
       bracket (ap (λ x. getD x 0 0) q) (rw q (omega arith))
-        (λ w. rw (q, n, infix-passes u v op 0 w h k (passes e u su 0) (passes f v sv 0), closing-last 1 41 w refl (omega arith)) (omega arith))
+      (λ w. rw (q, n, infix-passes u v op 0 w h k (passes e u su 0) (passes f v sv 0), closing-last 1 41 w refl (omega arith)) (omega arith))
 
   pub form : (e : Expr) (t : List ℕ) → Spells-expr N e t → Form t
   unfolding Spells-expr each-byte
@@ -114,15 +114,17 @@ module _ (N : ℕ → List ℕ → Type 0) (names : (k : ℕ) (u : List ℕ) →
   pub ends-bracket : (text : List ℕ) (x y : ℕ) (e : Expr) (s : Stands N text x e) → getD text x 0 ≡ 40 → y ≡ x + closing 0 (drop x text) → drop y text ≡ s .behind
   ends-bracket text x y e s h q =
       let b : getD (s .spelling ++ s .behind) 0 0 ≡ 40 = sym (first-byte text _ x (s .here)) ∙ h in
-      elim (form e (s .spelling) (s .spells))
-        [ word p n ↦ absurd (word-open _ (byte-at word-byte (s .spelling) 0 p (omega arith)) (sym (first-of (s .spelling) (s .behind) n) ∙ b))
-        | bracket p n c ↦ drop-on text (s .spelling) (s .behind) x y (s .here) (q ∙ ap (λ t. x + closing 0 t) (s .here) ∙ ap (λ m. x + m) (c (s .behind))) ]
+      elim (form e (s .spelling) (s .spells)) [
+        | word p n ↦ absurd (word-open _ (byte-at word-byte (s .spelling) 0 p (omega arith)) (sym (first-of (s .spelling) (s .behind) n) ∙ b))
+        | bracket p n c ↦ drop-on text (s .spelling) (s .behind) x y (s .here) (q ∙ ap (λ t. x + closing 0 t) (s .here) ∙ ap (λ m. x + m) (c (s .behind)))
+      ]
 
   pub ends-word : (text : List ℕ) (x y : ℕ) (e : Expr) (s : Stands N text x e) → getD text x 0 ≢ 40 → Word-end text x y → drop y text ≡ s .behind
   ends-word text x y e s h w =
-      elim (form e (s .spelling) (s .spells))
-        [ word p n ↦ drop-on text (s .spelling) (s .behind) x y (s .here) (word-ends text x y (s .spelling) (s .behind) w (s .here) p (s .apart))
-        | bracket p n c ↦ absurd (h (first-byte text _ x (s .here) ∙ first-of (s .spelling) (s .behind) n ∙ p)) ]
+      elim (form e (s .spelling) (s .spells)) [
+        | word p n ↦ drop-on text (s .spelling) (s .behind) x y (s .here) (word-ends text x y (s .spelling) (s .behind) w (s .here) p (s .apart))
+        | bracket p n c ↦ absurd (h (first-byte text _ x (s .here) ∙ first-of (s .spelling) (s .behind) n ∙ p))
+      ]
 
 pub named-names : (ns : List (List ℕ)) → ((k : ℕ) → k < length ns → Is-name (getD ns k [])) → (k : ℕ) (u : List ℕ) → Named ns k u → Is-name u
 named-names ns h k u n = rw (n .1) (h k (n .0))

@@ -36,9 +36,9 @@ each-none = refl
 which : List ℕ → Keyword
 which u =
     cond (same-bytes (codes "own") u) Own (cond (same-bytes (codes "cells") u) Cells (cond (same-bytes (codes "cell") u) Cell
-      (cond (same-bytes (codes "field") u) Field (cond (same-bytes (codes "barrier") u) Barrier (cond (same-bytes (codes "if") u) If
-      (cond (same-bytes (codes "else") u) Else (cond (same-bytes (codes "end") u) End (cond (same-bytes (codes "while") u) While
-      (cond (same-bytes (codes "lane") u) Lane (cond (same-bytes (codes "group") u) Group Lanes))))))))))
+    (cond (same-bytes (codes "field") u) Field (cond (same-bytes (codes "barrier") u) Barrier (cond (same-bytes (codes "if") u) If
+    (cond (same-bytes (codes "else") u) Else (cond (same-bytes (codes "end") u) End (cond (same-bytes (codes "while") u) While
+    (cond (same-bytes (codes "lane") u) Lane (cond (same-bytes (codes "group") u) Group Lanes))))))))))
 
 which-written : (k : Keyword) → which (written k) ≡ k
 unfolding which same-bytes
@@ -126,7 +126,7 @@ own-is ns k a None d n p = absurd (p k (n .0) (sym (n .1)))
 own-is ns k a (Some j) d n p = ap Some (d j k (p .there) (n .0) (p .is ∙ n .1))
 
 pub named-scan : (ns : List (List ℕ)) (text a t : List ℕ) (at k : ℕ) (r : Line) → Names ns text → Named ns k a → Scan text at r → drop at text ≡ a ++ (32 ∷ 61 ∷ 32 ∷ t)
-  → (x : ℕ) × Value-scan text k x r × (drop x text ≡ t)
+    → (x : ℕ) × Value-scan text k x r × (drop x text ≡ t)
 named-scan ns text a t at k r names n s h =
     let name = named-names ns (names .there .names) k a n in
     let u : between at (s .stop) text ≡ a = word-at text a _ at (s .stop) (s .ends) h (name .bytes) refl in
@@ -143,7 +143,7 @@ named-scan ns text a t at k r names n s h =
 
 -- Behind the equals sign: a cell is read.
 pub value-keyword : (text t : List ℕ) (k x : ℕ) (r : Line) (j : Keyword) → Value-scan text k x r → drop x text ≡ written j ++ (32 ∷ t)
-  → (e : ℕ) × (r ≡ value-line k x e (Some j)) × (drop (e + 1) text ≡ t)
+    → (e : ℕ) × (r ≡ value-line k x e (Some j)) × (drop (e + 1) text ≡ t)
 value-keyword text t k x r j s h =
     let u : between x (s .stop) text ≡ written j = word-at text (written j) (32 ∷ t) x (s .stop) (s .ends) h (written-word j) refl in
     let q : s .word ≡ Some j = keyword-is (s .word) _ j (s .is-word) u in
@@ -183,12 +183,13 @@ module _ (N : ℕ → List ℕ → Type 0) (names : (k : ℕ) (u : List ℕ) →
   -- The word at which an expression stands is none of these two.
   expr-word : (text : List ℕ) (x y : ℕ) (e : Expr) (j : Keyword) → Cells-word j → Stands N text x e → Word-end text x y → between x y text ≢ written j
   expr-word text x y e j c s w q =
-      elim (form N names e (s .spelling) (s .spells))
-        [ word p n ↦ not-cells e (s .spelling) j c (s .spells) (sym (word-at text (s .spelling) (s .behind) x y w (s .here) p (s .apart)) ∙ q)
+      elim (form N names e (s .spelling) (s .spells)) [
+        | word p n ↦ not-cells e (s .spelling) j c (s .spells) (sym (word-at text (s .spelling) (s .behind) x y w (s .here) p (s .apart)) ∙ q)
         | bracket p n f ↦
-          let b : getD (s .spelling ++ s .behind) 0 0 ≡ 40 = first-of N names (s .spelling) (s .behind) n ∙ p in
-          let z : between x y text ≡ [] = word-at text [] (s .spelling ++ s .behind) x y w (s .here) each-none (ap word-byte b) in
-          omega (arith, written-some j, ap length (sym q ∙ z)) ]
+            let b : getD (s .spelling ++ s .behind) 0 0 ≡ 40 = first-of N names (s .spelling) (s .behind) n ∙ p in
+            let z : between x y text ≡ [] = word-at text [] (s .spelling ++ s .behind) x y w (s .here) each-none (ap word-byte b) in
+            omega (arith, written-some j, ap length (sym q ∙ z))
+      ]
 
 value-put : (k x e : ℕ) (w : Option Keyword) → (w ≡ Some Cell → ⊥) → (w ≡ Some Field → ⊥) → value-line k x e w ≡ Put k x
 value-put k x e None p q = refl
@@ -209,5 +210,5 @@ value-put k x e (Some Lanes) p q = refl
 pub value-expr : (ns : List (List ℕ)) (text : List ℕ) (k x : ℕ) (r : Line) (e : Expr) → Names ns text → Value-scan text k x r → Stands (Named ns) text x e → r ≡ Put k x
 value-expr ns text k x r e names v s =
     let no : (j : Keyword) → Cells-word j → v .word ≡ Some j → ⊥ =
-      λ j c q. expr-word (Named ns) (named-names ns (names .there .names)) text x (v .stop) e j c s (v .ends) (subst (λ (w : Option Keyword). Word-is w (between x (v .stop) text)) q (v .is-word)) in
+    λ j c q. expr-word (Named ns) (named-names ns (names .there .names)) text x (v .stop) e j c s (v .ends) (subst (λ (w : Option Keyword). Word-is w (between x (v .stop) text)) q (v .is-word)) in
     v .is ∙ value-put k x (v .stop) (v .word) (no Cell (inl refl)) (no Field (inr refl))

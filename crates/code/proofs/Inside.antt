@@ -65,15 +65,17 @@ module _ (N : ℕ → List ℕ → Type 0) (text : List ℕ) (owns : ℕ) (code 
   codes-same o (barrier b) h c = (h o (omega arith) (omega arith) ∙ c .0, codes-same (suc o) b (λ i p q. h i (omega arith) (omega arith)) (c .1))
   codes-same o (when e x d b) h c =
       let n = when-lines e x d b in
-      let fits : lines-of d ≤ else-lines d = else-room d in
-      ( (c .0 .0, c .0 .1, h o (omega arith) (omega arith) ∙ c .0 .2)
-      , codes-same (suc o) x (λ i p q. h i (omega arith) (omega arith)) (c .1)
-      , h (suc o + lines-of x) (omega arith) (omega arith) ∙ c .2
-      , codes-same (suc o + suc (lines-of x)) d (λ i p q. h i (omega arith) (omega arith)) (c .3)
-      , (λ q. let g = else-some d q in h (suc o + suc (lines-of x) + lines-of d) (omega arith) (omega arith) ∙ c .4 q)
-      , codes-same (suc o + suc (lines-of x) + else-lines d) b (λ i p q. h i (omega arith) (omega arith)) (c .5) )
-  codes-same o (while e x b) h c =
-      ( (c .0 .0, c .0 .1, h o (omega arith) (omega arith) ∙ c .0 .2)
-      , codes-same (suc o) x (λ i p q. h i (omega arith) (omega arith)) (c .1)
-      , h (suc o + lines-of x) (omega arith) (omega arith) ∙ c .2
-      , codes-same (suc o + suc (lines-of x)) b (λ i p q. h i (omega arith) (omega arith)) (c .3) )
+      let fits : lines-of d ≤ else-lines d = else-room d in (
+        (c .0 .0, c .0 .1, h o (omega arith) (omega arith) ∙ c .0 .2),
+        codes-same (suc o) x (λ i p q. h i (omega arith) (omega arith)) (c .1),
+        h (suc o + lines-of x) (omega arith) (omega arith) ∙ c .2,
+        codes-same (suc o + suc (lines-of x)) d (λ i p q. h i (omega arith) (omega arith)) (c .3),
+        (λ q. let g = else-some d q in h (suc o + suc (lines-of x) + lines-of d) (omega arith) (omega arith) ∙ c .4 q),
+        codes-same (suc o + suc (lines-of x) + else-lines d) b (λ i p q. h i (omega arith) (omega arith)) (c .5),
+      )
+  codes-same o (while e x b) h c = (
+    (c .0 .0, c .0 .1, h o (omega arith) (omega arith) ∙ c .0 .2),
+    codes-same (suc o) x (λ i p q. h i (omega arith) (omega arith)) (c .1),
+    h (suc o + lines-of x) (omega arith) (omega arith) ∙ c .2,
+    codes-same (suc o + suc (lines-of x)) b (λ i p q. h i (omega arith) (omega arith)) (c .3),
+  )

@@ -136,3 +136,10 @@ lines-none (write-all e f b) h = absurd (omega arith)
 lines-none (barrier b) h = absurd (omega arith)
 lines-none (when e c d b) h = absurd (omega arith)
 lines-none (while e c b) h = absurd (omega arith)
+
+pub no-second : (d : Body) → d ≡ end → else-lines d ≡ 0
+unfolding ended
+no-second d q = else-none d (ap ended q)
+
+pub else-most : (d : Body) → else-lines d ≤ suc (lines-of d)
+else-most d = elim (cases-bool (ended d)) [ inl q ↦ omega (arith, else-none d q) | inr q ↦ omega (arith, else-some d q) ]

@@ -10,3 +10,4 @@ pub mod Bodies
 pub mod Inside
 pub mod Makes
 pub mod Parts
+pub mod Wholes

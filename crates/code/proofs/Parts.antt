@@ -35,7 +35,7 @@ pub option-weaker : {A : Type 0} (o : Option A) (P R : Type 0) (Q S : A → Type
 option-weaker None P R Q S f g c = f c
 option-weaker (Some x) P R Q S f g c = g x c
 
-not-stopping : (looped : Bool) (x : ℕ) (r : Line) → r ≡ branch-line looped x → stopping r ≡ true → ⊥
+pub not-stopping : (looped : Bool) (x : ℕ) (r : Line) → r ≡ branch-line looped x → stopping r ≡ true → ⊥
 not-stopping false x r q h = true≢false (sym h ∙ ap stopping q)
 not-stopping true x r q h = true≢false (sym h ∙ ap stopping q)
 
@@ -107,12 +107,17 @@ module _ (ns : List (List ℕ)) (text z : List ℕ) (fuel room : ℕ) where
 
   -- One line more.
   pub part-more : (w v : List ℕ) (o : ℕ) (b : Body) (p q : Place) → o ≤ p .entry → p .entry ≤ q .entry → (one : Part ns text w z o b fuel p) → Part ns text v z (p .entry) (one .rest) fuel q → Kept w v (p .entry) (q .entry)
-    → Part ns text v z o b fuel q
+      → Part ns text v z o b fuel q
   unfolding Same-entries
   part-more w v o b p q u1 u2 one two k =
-      record { rest = two .rest; lies = two .lies; shallow = two .shallow; count = two .count ∙ one .count;
+      record {
+        rest = two .rest;
+        lies = two .lies;
+        shallow = two .shallow;
+        count = two .count ∙ one .count;
         stands = λ after same c.
-          one .stands after (λ i lo hi. same i lo (omega arith) ∙ kept-entry w v (p .entry) (q .entry) i k (inl hi)) (two .stands after (λ i lo hi. same i (omega arith) hi) c) }
+            one .stands after (λ i lo hi. same i lo (omega arith) ∙ kept-entry w v (p .entry) (q .entry) i k (inl hi)) (two .stands after (λ i lo hi. same i (omega arith) hi) c);
+      }
 
   end-spelt : (t : List ℕ) → Spells-body (Named ns) end t → t ≡ []
   unfolding Spells-body
@@ -127,91 +132,111 @@ module _ (ns : List (List ℕ)) (text z : List ℕ) (fuel room : ℕ) where
   unfolding Same-entries
   part-done w o b p part q =
       let s : part .lies .spelt ≡ [] = end-spelt _ (subst (λ (v : Body). Spells-body (Named ns) v (part .lies .spelt)) q (part .lies .spells)) in
-      record { there = part .lies .here ∙ ap (λ t. t ++ z) s; count = omega (arith, part .count, no-lines (part .rest) q);
-        stands = part .stands w (λ i lo hi. refl) (subst (λ (v : Body). Codes (Named ns) text (length ns) (entry-at w) (p .entry) v) (sym q) (end-codes w (p .entry))) }
+      record {
+        there = part .lies .here ∙ ap (λ t. t ++ z) s;
+        count = omega (arith, part .count, no-lines (part .rest) q);
+        stands = part .stands w (λ i lo hi. refl) (subst (λ (v : Body). Codes (Named ns) text (length ns) (entry-at w) (p .entry) v) (sym q) (end-codes w (p .entry)));
+      }
 
   pub stops-done : (w : List ℕ) (b : Body) (q p : Place) (r : Line) → Scan text (p .at) r → stopping r ≡ true → Given ns text (q .at) b z (q .entry) fuel room → Part ns text w z (q .entry) b fuel p → Done ns text w z (q .entry) b p
   stops-done w b q p r scan h g part =
-      elim (told ns text (g .names) (p .at) r scan z (part .rest) (part .lies) (g .halts))
-        [ halted e s ↦ part-done w (q .entry) b p part e
+      elim (told ns text (g .names) (p .at) r scan z (part .rest) (part .lies) (g .halts)) [
+        | halted e s y ↦ part-done w (q .entry) b p part e
         | plain n ↦ absurd (both-ways (stopping r) (n .goes) h)
-        | branch looped x br e ↦ absurd (not-stopping looped x r e h) ]
+        | branch looped x br e ↦ absurd (not-stopping looped x r e h)
+      ]
 
   -- A line that goes on is in a body with entries, so there is room for one.
   pub goes-room : (w : List ℕ) (b : Body) (q p : Place) (r : Line) → Scan text (p .at) r → stopping r ≡ false → Given ns text (q .at) b z (q .entry) fuel room → Part ns text w z (q .entry) b fuel p → p .entry < room
   goes-room w b q p r scan h g part =
       let n : 1 ≤ lines-of (part .rest) =
-        elim (told ns text (g .names) (p .at) r scan z (part .rest) (part .lies) (g .halts))
-          [ halted e s ↦ absurd (both-ways (stopping r) h s)
-          | plain n ↦ omega (arith, n .lines)
-          | branch looped x br e ↦ branch-lines ns text x looped (part .rest) br ] in
+      elim (told ns text (g .names) (p .at) r scan z (part .rest) (part .lies) (g .halts)) [
+        | halted e s y ↦ absurd (both-ways (stopping r) h s)
+        | plain n ↦ omega (arith, n .lines)
+        | branch looped x br e ↦ branch-lines ns text x looped (part .rest) br
+      ] in
       omega (arith, part .count, g .room-for)
 
   -- A line without lines in it.
   pub plain-part : (w v : List ℕ) (b : Body) (p q : Place) (r : Line) (s : Step) (line : ℕ) → Scan text (p .at) r → stopping r ≡ false → branching r ≡ false → After text p q → s ≡ plain-step r (q .entry) → Wrote w v (p .entry) s line
-    → Given ns text (p .at) b z (p .entry) fuel room → Part ns text v z (p .entry) b fuel q
+      → Given ns text (p .at) b z (p .entry) fuel room → Part ns text v z (p .entry) b fuel q
   unfolding Same-entries
   plain-part w v b p q r s line scan h f af st wrote g =
-      elim (told ns text (g .names) (p .at) r scan z b (g .lies) (g .halts))
-        [ halted e y ↦ absurd (both-ways (stopping r) h y)
+      elim (told ns text (g .names) (p .at) r scan z b (g .lies) (g .halts)) [
+        | halted e y x₀ ↦ absurd (both-ways (stopping r) h y)
         | plain n ↦
-          let qe = af .entry in
-          record { rest = n .rest; lies = n .next (q .at) (af .next); shallow = omega (arith, n .deep, g .shallow); count = omega (arith, n .lines);
-            stands = λ after same c.
-              n .codes-on after (p .entry)
-                (same (p .entry) (omega arith) (omega arith) ∙ wrote .here (suc (p .entry)) (omega arith) ∙ st ∙ ap (plain-step r) qe)
-                (subst (λ (m : ℕ). Codes (Named ns) text (length ns) (entry-at after) m (n .rest)) qe c) }
-        | branch looped x br e ↦ absurd (both-ways (branching r) f (branch-branching looped x r e)) ]
+            let qe = af .entry in
+            record {
+              rest = n .rest;
+              lies = n .next (q .at) (af .next);
+              shallow = omega (arith, n .deep, g .shallow);
+              count = omega (arith, n .lines);
+              stands = λ after same c.
+                  n .codes-on after (p .entry)
+                  (same (p .entry) (omega arith) (omega arith) ∙ wrote .here (suc (p .entry)) (omega arith) ∙ st ∙ ap (plain-step r) qe)
+                  (subst (λ (m : ℕ). Codes (Named ns) text (length ns) (entry-at after) m (n .rest)) qe c);
+            }
+        | branch looped x br e ↦ absurd (both-ways (branching r) f (branch-branching looped x r e))
+      ]
 
   -- A line that is a branch.
   pub is-branch : (b : Body) (p : Place) (r : Line) (looped : Bool) (x : ℕ) → Scan text (p .at) r → r ≡ branch-line looped x → Given ns text (p .at) b z (p .entry) fuel room → Branches ns text x looped b
   is-branch b p r looped x scan q g =
-      elim (told ns text (g .names) (p .at) r scan z b (g .lies) (g .halts))
-        [ halted e y ↦ absurd (not-stopping looped x r q y)
+      elim (told ns text (g .names) (p .at) r scan z b (g .lies) (g .halts)) [
+        | halted e y x₀ ↦ absurd (not-stopping looped x r q y)
         | plain n ↦ absurd (both-ways (branching r) (n .flat) (branch-branching looped x r q))
         | branch f y br e ↦
-          let h = same-branch f looped y x (sym e ∙ q) in
-          subst (λ (k : Bool). Branches ns text x k b) (h .0) (subst (λ (k : ℕ). Branches ns text k f b) (h .1) br) ]
+            let h = same-branch f looped y x (sym e ∙ q) in
+            subst (λ (k : Bool). Branches ns text x k b) (h .0) (subst (λ (k : ℕ). Branches ns text k f b) (h .1) br)
+      ]
 
 -- The else of an if.
 module _ (ns : List (List ℕ)) (text : List ℕ) (fuel room : ℕ) (d : Body) (z : List ℕ) where
   -- Where no else stands there are no second lines.
   pub no-else : (w : List ℕ) (q : Place) (r : Line) → Scan text (q .at) r → (r ≡ Otherwise → ⊥) → Else-given ns text (q .at) d z (q .entry) fuel room
-    → (drop (q .at) text ≡ codes "end" ++ (10 ∷ z)) × (q .entry ≡ q .entry + else-lines d) × Codes (Named ns) text (length ns) (entry-at w) (suc (q .entry)) d
+      → (drop (q .at) text ≡ codes "end" ++ (10 ∷ z)) × (q .entry ≡ q .entry + else-lines d) × Codes (Named ns) text (length ns) (entry-at w) (suc (q .entry)) d
   unfolding ended
   no-else w q r scan h g =
-      elim (g .is)
-        [ none p y ↦
-          ( g .here ∙ ap (λ t. t ++ (codes "end" ++ (10 ∷ z))) y
-          , omega (arith, else-none d (ap ended p))
-          , subst (λ (v : Body). Codes (Named ns) text (length ns) (entry-at w) (suc (q .entry)) v) (sym p) (end-codes ns text z fuel room w (suc (q .entry))) )
-        | some u s y ↦ absurd (h (keyword-scan text (10 ∷ (u ++ (codes "end" ++ (10 ∷ z)))) (q .at) r Else scan (g .here ∙ ap (λ t. t ++ (codes "end" ++ (10 ∷ z))) y) refl .2)) ]
+      elim (g .is) [
+        | none p y ↦ (
+          g .here ∙ ap (λ t. t ++ (codes "end" ++ (10 ∷ z))) y,
+          omega (arith, else-none d (ap ended p)),
+          subst (λ (v : Body). Codes (Named ns) text (length ns) (entry-at w) (suc (q .entry)) v) (sym p) (end-codes ns text z fuel room w (suc (q .entry))),
+        )
+        | some u s y ↦ absurd (h (keyword-scan text (10 ∷ (u ++ (codes "end" ++ (10 ∷ z)))) (q .at) r Else scan (g .here ∙ ap (λ t. t ++ (codes "end" ++ (10 ∷ z))) y) refl .2))
+      ]
 
   otherwise-close : (r : Line) → r ≡ Close → r ≡ Otherwise → ⊥
   otherwise-close r p q = let e : Close ≡ Otherwise = sym p ∙ q in let n : _≡_ {A = ℕ} 0 1 = cc in omega arith
 
   -- Where an else stands, the lines behind it are those of the second body.
   pub given-second : (q i : Place) (r : Line) → Scan text (q .at) r → r ≡ Otherwise → After text q i → Else-given ns text (q .at) d z (q .entry) fuel room
-    → Given ns text (i .at) d (codes "end" ++ (10 ∷ z)) (i .entry) fuel room
+      → Given ns text (i .at) d (codes "end" ++ (10 ∷ z)) (i .entry) fuel room
   unfolding each-byte
   given-second q i r scan h af g =
-      elim (g .is)
-        [ none p y ↦ absurd (otherwise-close r (keyword-scan text (10 ∷ z) (q .at) r End scan (g .here ∙ ap (λ t. t ++ (codes "end" ++ (10 ∷ z))) y) refl .2) h)
+      elim (g .is) [
+        | none p y ↦ absurd (otherwise-close r (keyword-scan text (10 ∷ z) (q .at) r End scan (g .here ∙ ap (λ t. t ++ (codes "end" ++ (10 ∷ z))) y) refl .2) h)
         | some u s y ↦
-          record { names = g .names;
-            lies = record { spelt = u; spells = s; here = next-is text (codes "else") (u ++ (codes "end" ++ (10 ∷ z))) (q .at) (i .at) (af .next) (g .here ∙ ap (λ t. t ++ (codes "end" ++ (10 ∷ z))) y) refl };
-            halts = at-end z refl; shallow = g .shallow; room-for = omega (arith, g .room-for, af .entry, else-room d) } ]
+            record {
+              names = g .names;
+              lies = record { spelt = u; spells = s; here = next-is text (codes "else") (u ++ (codes "end" ++ (10 ∷ z))) (q .at) (i .at) (af .next) (g .here ∙ ap (λ t. t ++ (codes "end" ++ (10 ∷ z))) y) refl };
+              halts = at-end z refl;
+              shallow = g .shallow;
+              room-for = omega (arith, g .room-for, af .entry, else-room d);
+            }
+      ]
 
   -- Second lines that were made: none, or some.
   pub second-none : (w : List ℕ) (q i p : Place) → After text q i → p .entry ≡ i .entry → Done ns text w (codes "end" ++ (10 ∷ z)) (i .entry) d p
-    → (drop (p .at) text ≡ codes "end" ++ (10 ∷ z)) × (q .entry ≡ q .entry + else-lines d) × Codes (Named ns) text (length ns) (entry-at w) (suc (q .entry)) d
+      → (drop (p .at) text ≡ codes "end" ++ (10 ∷ z)) × (q .entry ≡ q .entry + else-lines d) × Codes (Named ns) text (length ns) (entry-at w) (suc (q .entry)) d
   second-none w q i p af h done =
       let n : lines-of d ≡ 0 = omega (arith, done .count) in
       (done .there, omega (arith, else-none d (lines-none d n)), subst (λ (m : ℕ). Codes (Named ns) text (length ns) (entry-at w) m d) (af .entry) (done .stands))
 
   pub second-some : (w : List ℕ) (q i p : Place) → After text q i → (p .entry ≡ i .entry → ⊥) → Done ns text w (codes "end" ++ (10 ∷ z)) (i .entry) d p
-    → (drop (p .at) text ≡ codes "end" ++ (10 ∷ z)) × (p .entry ≡ q .entry + else-lines d) × Codes (Named ns) text (length ns) (entry-at w) (suc (q .entry)) d
+      → (drop (p .at) text ≡ codes "end" ++ (10 ∷ z)) × (p .entry ≡ q .entry + else-lines d) × Codes (Named ns) text (length ns) (entry-at w) (suc (q .entry)) d
   second-some w q i p af h done =
-      elim (cases-bool (ended d))
-        [ inl y ↦ absurd (h (omega (arith, done .count, no-lines d (ended-is d y))))
-        | inr y ↦ (done .there, omega (arith, done .count, af .entry, else-some d y), subst (λ (m : ℕ). Codes (Named ns) text (length ns) (entry-at w) m d) (af .entry) (done .stands)) ]
+      elim (cases-bool (ended d)) [
+        | inl y ↦ absurd (h (omega (arith, done .count, no-lines d (ended-is d y))))
+        | inr y ↦ (done .there, omega (arith, done .count, af .entry, else-some d y), subst (λ (m : ℕ). Codes (Named ns) text (length ns) (entry-at w) m d) (af .entry) (done .stands))
+      ]

@@ -32,8 +32,8 @@ infix-in-line : (u v : List ℕ) (op : ℕ) → in-line op ≡ true → each-byt
 unfolding each-byte
 infix-in-line u v op h p q =
     each-append in-line (40 ∷ []) (u ++ (32 ∷ op ∷ 32 ∷ (v ++ (41 ∷ [])))) refl
-      (each-append in-line u (32 ∷ op ∷ 32 ∷ (v ++ (41 ∷ []))) p
-        (each-append in-line (32 ∷ op ∷ 32 ∷ []) (v ++ (41 ∷ [])) (rw h) (each-append in-line v (41 ∷ []) q refl)))
+    (each-append in-line u (32 ∷ op ∷ 32 ∷ (v ++ (41 ∷ []))) p
+    (each-append in-line (32 ∷ op ∷ 32 ∷ []) (v ++ (41 ∷ [])) (rw h) (each-append in-line v (41 ∷ []) q refl)))
 
 module _ (N : ℕ → List ℕ → Type 0) (names : (k : ℕ) (u : List ℕ) → N k u → Is-name u) where
   part : (e f : Expr) (op : ℕ) (t u v : List ℕ) → t ≡ infix-of u op v → in-line op ≡ true → each-byte in-line u ≡ true → each-byte in-line v ≡ true → each-byte in-line t ≡ true
@@ -81,21 +81,21 @@ module _ (ns : List (List ℕ)) (text : List ℕ) (names : Names ns text) where
 
   module _ (at : ℕ) (r : Line) (scan : Scan text at r) where
     pub put-line : (k : ℕ) (e : Expr) (a u t : List ℕ) → Named ns k a → Spells-expr (Named ns) e u → drop at text ≡ a ++ (codes " = " ++ (u ++ (10 ∷ t)))
-      → (x : ℕ) × Stands (Named ns) text x e × (r ≡ Put k x)
+        → (x : ℕ) × Stands (Named ns) text x e × (r ≡ Put k x)
     put-line k e a u t n s h =
         let v = named-scan ns text a (u ++ (10 ∷ t)) at k r names n scan h in
         let st = stands-last e u t (v .0) s (v .2) in
         (v .0, st, value-expr ns text k (v .0) r e names (v .1) st)
 
     pub read-line : (k : ℕ) (e : Expr) (a u t : List ℕ) → Named ns k a → Spells-expr (Named ns) e u → drop at text ≡ a ++ (codes " = cell " ++ (u ++ (10 ∷ t)))
-      → (x : ℕ) × Stands (Named ns) text x e × (r ≡ Read false k x)
+        → (x : ℕ) × Stands (Named ns) text x e × (r ≡ Read false k x)
     read-line k e a u t n s h =
         let v = named-scan ns text a (codes "cell" ++ (32 ∷ (u ++ (10 ∷ t)))) at k r names n scan h in
         let w = value-keyword text (u ++ (10 ∷ t)) k (v .0) r Cell (v .1) (v .2) in
         (w .0 + 1, stands-last e u t (w .0 + 1) s (w .2), w .1)
 
     pub read-line-field : (k : ℕ) (e : Expr) (a u t : List ℕ) → Named ns k a → Spells-expr (Named ns) e u → drop at text ≡ a ++ (codes " = field " ++ (u ++ (10 ∷ t)))
-      → (x : ℕ) × Stands (Named ns) text x e × (r ≡ Read true k x)
+        → (x : ℕ) × Stands (Named ns) text x e × (r ≡ Read true k x)
     read-line-field k e a u t n s h =
         let v = named-scan ns text a (codes "field" ++ (32 ∷ (u ++ (10 ∷ t)))) at k r names n scan h in
         let w = value-keyword text (u ++ (10 ∷ t)) k (v .0) r Field (v .1) (v .2) in
@@ -103,7 +103,7 @@ module _ (ns : List (List ℕ)) (text : List ℕ) (names : Names ns text) where
 
     -- A cell is written: two expressions.
     two : (f : Bool) (j : Keyword) (e g : Expr) (u v t : List ℕ) (stop : ℕ) → Spells-expr (Named ns) e u → Spells-expr (Named ns) g v → drop stop text ≡ 32 ∷ (u ++ (codes " = " ++ (v ++ (10 ∷ t))))
-      → Write-scan text f (stop + 1) r → (x : ℕ) × (y : ℕ) × Stands (Named ns) text x e × Stands (Named ns) text y g × (r ≡ Write f x y)
+        → Write-scan text f (stop + 1) r → (x : ℕ) × (y : ℕ) × Stands (Named ns) text x e × Stands (Named ns) text y g × (r ≡ Write f x y)
     unfolding Ends-at
     two f j e g u v t stop s p h w =
         let on : drop (stop + 1) text ≡ u ++ (codes " = " ++ (v ++ (10 ∷ t))) = drop-on text (32 ∷ []) _ stop (stop + 1) h refl in
@@ -114,13 +114,13 @@ module _ (ns : List (List ℕ)) (text : List ℕ) (names : Names ns text) where
         (stop + 1, y .0 + 3, st, stands-last g v t (y .0 + 3) p (drop-on text (codes " = ") (v ++ (10 ∷ t)) (y .0) (y .0 + 3) q refl), y .2)
 
     pub write-line : (e g : Expr) (u v t : List ℕ) → Spells-expr (Named ns) e u → Spells-expr (Named ns) g v → drop at text ≡ codes "cell " ++ (u ++ (codes " = " ++ (v ++ (10 ∷ t))))
-      → (x : ℕ) × (y : ℕ) × Stands (Named ns) text x e × Stands (Named ns) text y g × (r ≡ Write false x y)
+        → (x : ℕ) × (y : ℕ) × Stands (Named ns) text x e × Stands (Named ns) text y g × (r ≡ Write false x y)
     write-line e g u v t s p h =
         let k = keyword-scan text (32 ∷ (u ++ (codes " = " ++ (v ++ (10 ∷ t))))) at r Cell scan h refl in
         two false Cell e g u v t (k .0) s p (drop-on text (codes "cell") _ at (k .0) h (k .1)) (k .2)
 
     pub write-line-field : (e g : Expr) (u v t : List ℕ) → Spells-expr (Named ns) e u → Spells-expr (Named ns) g v → drop at text ≡ codes "field " ++ (u ++ (codes " = " ++ (v ++ (10 ∷ t))))
-      → (x : ℕ) × (y : ℕ) × Stands (Named ns) text x e × Stands (Named ns) text y g × (r ≡ Write true x y)
+        → (x : ℕ) × (y : ℕ) × Stands (Named ns) text x e × Stands (Named ns) text y g × (r ≡ Write true x y)
     write-line-field e g u v t s p h =
         let k = keyword-scan text (32 ∷ (u ++ (codes " = " ++ (v ++ (10 ∷ t))))) at r Field scan h refl in
         two true Field e g u v t (k .0) s p (drop-on text (codes "field") _ at (k .0) h (k .1)) (k .2)

@@ -42,17 +42,18 @@ in-line-not b h = grind (arith, tells)
 
 -- The line that begins at i ends at r.
 pub line-ends : (text u z : List ℕ) (i r : ℕ) → drop i text ≡ u ++ (10 ∷ z) → each-byte in-line u ≡ true → i ≤ r → r < length text → ((k : ℕ) → i ≤ k → k < r → getD text k 0 ≢ 10)
-  → getD text r 0 ≡ 10 → r ≡ i + length u
+    → getD text r 0 ≡ 10 → r ≡ i + length u
 line-ends text u z i r e h f w none here =
-    elim (cases-order r (i + length u))
-      [ inl p ↦ p
+    elim (cases-order r (i + length u)) [
+      | inl p ↦ p
       | inr (inl p) ↦
-        let k : r - i < length u = omega arith in
-        let q : getD text r 0 ≡ getD u (r - i) 0 = ap (λ m. getD text m 0) (omega arith) ∙ at-part text u (10 ∷ z) i (r - i) e k in
-        absurd (in-line-not _ (byte-at in-line u (r - i) h k) (sym q ∙ here))
+          let k : r - i < length u = omega arith in
+          let q : getD text r 0 ≡ getD u (r - i) 0 = ap (λ m. getD text m 0) (omega arith) ∙ at-part text u (10 ∷ z) i (r - i) e k in
+          absurd (in-line-not _ (byte-at in-line u (r - i) h k) (sym q ∙ here))
       | inr (inr p) ↦
-        let q : getD text (i + length u) 0 ≡ 10 = ap (λ m. getD text m 0) (omega arith) ∙ behind-part text u (10 ∷ z) i 0 e in
-        absurd (none (i + length u) (omega arith) p q) ]
+          let q : getD text (i + length u) 0 ≡ 10 = ap (λ m. getD text m 0) (omega arith) ∙ behind-part text u (10 ∷ z) i 0 e in
+          absurd (none (i + length u) (omega arith) p q)
+    ]
 
 -- A text that has no byte 10 from i on has no line there.
 pub no-line : (text u z : List ℕ) (i : ℕ) → drop i text ≡ u ++ (10 ∷ z) → ((k : ℕ) → i ≤ k → k < length text → getD text k 0 ≢ 10) → ⊥

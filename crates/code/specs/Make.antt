@@ -8,7 +8,7 @@ use lib.Chars.{codes}
 use lib.ListN.{length, getD, drop}
 use Rattle.lanes.specs.Syntax.{Body, Expr, Program, end, when, while}
 use Rattle.grammar.specs.Spelling.{Named, Spells-body, each-byte}
-use Rattle.grammar.specs.Stands.{Stands}
+use Rattle.grammar.specs.Stands.{Stands, Apart}
 use Rattle.grammar.specs.Names.{Names-in, Distinct}
 use Rattle.grammar.specs.Taken.{depth, lines-in}
 use Rattle.code.specs.declared.step.Step.{Step}
@@ -158,7 +158,7 @@ pub record Else-made (text words after : List ℕ) (fuel room : ℕ) (q p : Plac
   pub fits : p .entry ≤ room
   pub kept : Kept words after (suc (q .entry)) (suc (p .entry))
   pub done : (ns : List (List ℕ)) (d : Body) (z : List ℕ) → Else-given ns text (q .at) d z (q .entry) fuel room →
-    (drop (p .at) text ≡ codes "end" ++ (10 ∷ z)) × (p .entry ≡ q .entry + else-lines d) × Codes (Named ns) text (length ns) (entry-at after) (suc (q .entry)) d
+      (drop (p .at) text ≡ codes "end" ++ (10 ∷ z)) × (p .entry ≡ q .entry + else-lines d) × Codes (Named ns) text (length ns) (entry-at after) (suc (q .entry)) d
 
 -- The entries of a branch at o were written, with the jumps at entries m and n.
 pub record Closed (words after : List ℕ) (o m n x : ℕ) (looped : Bool) : Type 0 where
@@ -167,6 +167,14 @@ pub record Closed (words after : List ℕ) (o m n x : ℕ) (looped : Bool) : Typ
   pub last : entry-at after n ≡ SJump (cond looped o (suc n))
   pub others : (i : ℕ) → (i ≡ o → ⊥) → (i ≡ m → ⊥) → (i ≡ n → ⊥) → entry-at after i ≡ entry-at words i
   pub kept : Kept words after o (suc n)
+
+-- Lines before the body are gone by; a body is not.
+pub record Skipped (text : List ℕ) (p r : Place) : Type 0 where
+  pub within : r .at ≤ length text
+  pub entry : r .entry ≡ p .entry
+  pub own-line : (u z : List ℕ) → drop (p .at) text ≡ codes "own" ++ (u ++ (10 ∷ z)) → Apart (u ++ (10 ∷ z)) → each-byte in-line u ≡ true → drop (r .at) text ≡ z
+  pub cells-line : (u z : List ℕ) → drop (p .at) text ≡ codes "cells" ++ (u ++ (10 ∷ z)) → Apart (u ++ (10 ∷ z)) → each-byte in-line u ≡ true → drop (r .at) text ≡ z
+  pub stays : (ns : List (List ℕ)) (b : Body) (z : List ℕ) → Names ns text → Lies ns text (p .at) b z → Halts z → r ≡ p
 
 -- The text was made into r entries, which stand for the program's body; so they do at each entry what is left there. Words behind them are as they were.
 pub record Compiled (ns : List (List ℕ)) (p : Program) (text words after : List ℕ) (r : ℕ) : Type 0 where

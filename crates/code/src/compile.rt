@@ -8,10 +8,10 @@ ghost use Rattle.std.specs.Options.{Cases as BySome};
 ghost use Rattle.lanes.specs.Syntax.{Body, Program};
 ghost use Rattle.grammar.specs.Taken.{Taken, lines-in};
 ghost use Rattle.code.specs.Scan.{Scan};
-ghost use Rattle.code.specs.Make.{After, stopping, plain-step, Given, Lines-made, Line-made, Branches, Branch-made, Else-given, Else-made, Closed, Compiled};
+ghost use Rattle.code.specs.Make.{After, stopping, plain-step, Given, Lines-made, Line-made, Branches, Branch-made, Else-given, Else-made, Closed, Skipped, Compiled};
+use super::scan::Line;
 use super::scan::next_line;
 use super::scan::scan_line;
-use super::scan::Line;
 use super::step::Step;
 use super::words::write_entry;
 
@@ -32,7 +32,11 @@ fn after(text: &[u8], p: Place) -> Place
     requires few { ⌜ p .entry < 1024 ⌝ }
     ensures { λ r. ⌜ After (now (text .entry)) p r ⌝ }
 {
-    Place { at: next_line(text, p.at), line: p.line.saturating_add(1), entry: p.entry + 1 }
+    Place {
+        at: next_line(text, p.at),
+        line: p.line.saturating_add(1),
+        entry: p.entry + 1,
+    }
 }
 
 // The line belongs to no body: a body ends before it.
@@ -51,8 +55,22 @@ fn step_of(line: Line, next: u32) -> Step
 {
     match line {
         Line::Put { own, expr } => Step::Put { own, expr, next },
-        Line::Read { field, own, expr } => Step::Read { field, own, expr, next },
-        Line::Write { field, place, value } => Step::Write { field, place, value, next },
+        Line::Read { field, own, expr } => Step::Read {
+            field,
+            own,
+            expr,
+            next,
+        },
+        Line::Write {
+            field,
+            place,
+            value,
+        } => Step::Write {
+            field,
+            place,
+            value,
+            next,
+        },
         Line::Wait => Step::Barrier { next },
         _ => Step::End,
     }
@@ -70,12 +88,24 @@ fn close(steps: &mut [u32], p: Place, first: Place, last: Place, looped: bool, e
     let to = if looped { p.entry as u32 } else { join };
     write_entry(steps, first.entry, Step::Jump { to }, first.line);
     write_entry(steps, last.entry, Step::Jump { to }, last.line);
-    let branch = Step::Branch { expr, yes: p.entry as u32 + 1, no: first.entry as u32 + 1, join, looped };
+    let branch = Step::Branch {
+        expr,
+        yes: p.entry as u32 + 1,
+        no: first.entry as u32 + 1,
+        join,
+        looped,
+    };
     write_entry(steps, p.entry, branch, p.line);
 }
 
 // The lines of an else, if one stands at `first`; the place of the end behind them, and its entry.
-fn else_lines(text: &[u8], first: Place, depth: usize, room: usize, steps: &mut [u32]) -> Option<Place>
+fn else_lines(
+    text: &[u8],
+    first: Place,
+    depth: usize,
+    room: usize,
+    steps: &mut [u32],
+) -> Option<Place>
     requires small { ⌜ length (now text) < 2 ^ 31 ⌝ }
     requires within { ⌜ first .at ≤ length (now text) ⌝ }
     requires entry { ⌜ first .entry < room ⌝ }
@@ -88,11 +118,27 @@ fn else_lines(text: &[u8], first: Place, depth: usize, room: usize, steps: &mut 
     };
     let begin = after(text, first);
     let second = compile_lines(text, begin, depth, room, steps)?;
-    if second.entry == begin.entry { Some(Place { at: second.at, line: second.line, entry: first.entry }) } else { Some(second) }
+    if second.entry == begin.entry {
+        Some(Place {
+            at: second.at,
+            line: second.line,
+            entry: first.entry,
+        })
+    } else {
+        Some(second)
+    }
 }
 
 // An if or a while at p, with what stands in it.
-fn compile_branch(text: &[u8], p: Place, looped: bool, expr: u32, depth: usize, room: usize, steps: &mut [u32]) -> Option<Place>
+fn compile_branch(
+    text: &[u8],
+    p: Place,
+    looped: bool,
+    expr: u32,
+    depth: usize,
+    room: usize,
+    steps: &mut [u32],
+) -> Option<Place>
     requires small { ⌜ length (now text) < 2 ^ 31 ⌝ }
     requires within { ⌜ p .at ≤ length (now text) ⌝ }
     requires entry { ⌜ p .entry < room ⌝ }
@@ -117,7 +163,14 @@ fn compile_branch(text: &[u8], p: Place, looped: bool, expr: u32, depth: usize, 
 }
 
 // The line at p, with what stands in it.
-fn compile_line(text: &[u8], p: Place, line: Line, depth: usize, room: usize, steps: &mut [u32]) -> Option<Place>
+fn compile_line(
+    text: &[u8],
+    p: Place,
+    line: Line,
+    depth: usize,
+    room: usize,
+    steps: &mut [u32],
+) -> Option<Place>
     requires small { ⌜ length (now text) < 2 ^ 31 ⌝ }
     requires within { ⌜ p .at ≤ length (now text) ⌝ }
     requires entry { ⌜ p .entry < room ⌝ }
@@ -139,7 +192,13 @@ fn compile_line(text: &[u8], p: Place, line: Line, depth: usize, room: usize, st
 }
 
 // The lines from a place on, up to an else or an end that belongs to none of them, or the end of the text.
-fn compile_lines(text: &[u8], from: Place, depth: usize, room: usize, steps: &mut [u32]) -> Option<Place>
+fn compile_lines(
+    text: &[u8],
+    from: Place,
+    depth: usize,
+    room: usize,
+    steps: &mut [u32],
+) -> Option<Place>
     requires small { ⌜ length (now text) < 2 ^ 31 ⌝ }
     requires within { ⌜ from .at ≤ length (now text) ⌝ }
     requires entry { ⌜ from .entry ≤ room ⌝ }
@@ -157,5 +216,44 @@ fn compile_lines(text: &[u8], from: Place, depth: usize, room: usize, steps: &mu
             return None;
         }
         p = compile_line(text, p, line, depth, room, steps)?;
+    }
+}
+
+// Behind the line that names own numbers, or that says how many cells there are, if one stands at p; else p.
+fn skip_heading(text: &[u8], p: Place) -> Place
+    requires small { ⌜ length (now text) < 2 ^ 31 ⌝ }
+    requires within { ⌜ p .at ≤ length (now text) ⌝ }
+    ensures { λ r. ⌜ Skipped (now (text .entry)) p r ⌝ }
+{
+    let Line::Heading = scan_line(text, p.at) else {
+        return p;
+    };
+    Place {
+        at: next_line(text, p.at),
+        line: p.line.saturating_add(1),
+        entry: p.entry,
+    }
+}
+
+// A text that was taken is made into steps: how many entries there are. Each has 16 words, and there are no more of them than lines.
+pub fn compile(text: &[u8], steps: &mut [u32]) -> usize
+    ensures { λ r. ⌜ ((ns : List (List ℕ)) (p : Program) → Taken ns p (now (text .entry)) → lines-in (now (text .entry)) * 16 ≤ length (now (steps .entry)) → Compiled ns p (now (text .entry)) (now (steps .entry)) (now (steps .exit)) r) ⌝ }
+{
+    if text.len() >= 0x8000_0000 {
+        return 0;
+    }
+    let room = (steps.len() / 16).min(1024);
+    let first = skip_heading(
+        text,
+        Place {
+            at: 0,
+            line: 1,
+            entry: 0,
+        },
+    );
+    let start = skip_heading(text, first);
+    match compile_lines(text, start, DEEPEST, room, steps) {
+        Some(end) => end.entry,
+        None => 0,
     }
 }

@@ -1,8 +1,8 @@
 // A program as steps in lent words: decoded, written, and made from a text.
+pub mod compile;
 pub mod jumps;
-pub mod step;
-mod compile;
 mod scan;
+pub mod step;
 pub mod words;
 
 pub use jumps::settle;

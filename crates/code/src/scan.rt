@@ -7,8 +7,8 @@ ghost use lib.ListN.{length, drop};
 ghost use Rattle.grammar.specs.Spelling.{each-byte};
 ghost use Rattle.code.specs.Scan.{in-line, closing, Ends-at, Value-scan, Named-scan, Write-scan, Scan};
 use grammar::bytes::byte;
-use grammar::keywords::keyword_of;
 use grammar::keywords::Keyword;
+use grammar::keywords::keyword_of;
 use grammar::names::name_index;
 use grammar::words::word_end;
 
@@ -73,7 +73,11 @@ fn expr_end(text: &[u8], i: usize) -> usize
     ensures within { λ r. ⌜ r ≤ length (now (text .entry)) ⌝ }
     ensures is { λ r. ⌜ Ends-at (now (text .entry)) i r ⌝ }
 {
-    if byte(text, i) == 40 { bracket_end(text, i) } else { word_end(text, i) }
+    if byte(text, i) == 40 {
+        bracket_end(text, i)
+    } else {
+        word_end(text, i)
+    }
 }
 
 // What own number k becomes, from byte x on: a cell, or an expression.
@@ -84,9 +88,20 @@ fn value_line(text: &[u8], own: u32, x: usize) -> Line
 {
     let end = word_end(text, x);
     match keyword_of(&text[x..end]) {
-        Some(Keyword::Cell) => Line::Read { field: false, own, expr: (end + 1) as u32 },
-        Some(Keyword::Field) => Line::Read { field: true, own, expr: (end + 1) as u32 },
-        _ => Line::Put { own, expr: x as u32 },
+        Some(Keyword::Cell) => Line::Read {
+            field: false,
+            own,
+            expr: (end + 1) as u32,
+        },
+        Some(Keyword::Field) => Line::Read {
+            field: true,
+            own,
+            expr: (end + 1) as u32,
+        },
+        _ => Line::Put {
+            own,
+            expr: x as u32,
+        },
     }
 }
 
@@ -99,7 +114,11 @@ fn named_line(text: &[u8], at: usize, e: usize) -> Line
     let Some(own) = name_index(text, at, e) else {
         return Line::Nothing;
     };
-    if e + 3 <= text.len() { value_line(text, own, e + 3) } else { Line::Nothing }
+    if e + 3 <= text.len() {
+        value_line(text, own, e + 3)
+    } else {
+        Line::Nothing
+    }
 }
 
 // A line that writes a cell, whose place stands at byte x.
@@ -111,7 +130,11 @@ fn write_line(text: &[u8], field: bool, x: usize) -> Line
         return Line::Nothing;
     }
     let end = expr_end(text, x);
-    Line::Write { field, place: x as u32, value: (end + 3) as u32 }
+    Line::Write {
+        field,
+        place: x as u32,
+        value: (end + 3) as u32,
+    }
 }
 
 // The line that begins at byte `at`.
@@ -126,8 +149,12 @@ pub fn scan_line(text: &[u8], at: usize) -> Line
         Some(Keyword::Cell) => write_line(text, false, end + 1),
         Some(Keyword::Field) => write_line(text, true, end + 1),
         Some(Keyword::Barrier) => Line::Wait,
-        Some(Keyword::If) => Line::Test { expr: (end + 1) as u32 },
-        Some(Keyword::While) => Line::Loop { expr: (end + 1) as u32 },
+        Some(Keyword::If) => Line::Test {
+            expr: (end + 1) as u32,
+        },
+        Some(Keyword::While) => Line::Loop {
+            expr: (end + 1) as u32,
+        },
         Some(Keyword::Else) => Line::Otherwise,
         Some(Keyword::End) => Line::Close,
         Some(Keyword::Own) => Line::Heading,

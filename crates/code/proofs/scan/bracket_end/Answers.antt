@@ -16,8 +16,10 @@ loop-at-again-then-b-eq40 c =
 pub returns-then-depth-le1 : need.returns-then-depth-le1
 returns-then-depth-le1 c =
     let inv = c .loop-at .inv in
-    record { within = omega (arith, c .loop-at-test .taken);
-      is = sym (step-last (c .args .text .now) (c .loop-at .at) (c .loop-at .depth) (c .loop-at-test .taken) (c .if-b-eq41 .taken) (c .if-depth-le1 .taken)) ∙ inv .0 }
+    record {
+      within = omega (arith, c .loop-at-test .taken);
+      is = sym (step-last (c .args .text .now) (c .loop-at .at) (c .loop-at .depth) (c .loop-at-test .taken) (c .if-b-eq41 .taken) (c .if-depth-le1 .taken)) ∙ inv .0;
+    }
 
 pub loop-at-again-then-b-eq41 : need.loop-at-again-then-b-eq41
 loop-at-again-then-b-eq41 c =

@@ -12,12 +12,14 @@ returns-then-text-end-eq10 c =
     record {
       within = omega (arith, c .loop-end-test .taken);
       on = λ u z e h.
-        drop-behind (c .args .text .now) u z (c .args .i) (c .loop-end .end) 10 e
-          (line-ends (c .args .text .now) u z (c .args .i) (c .loop-end .end) e h (inv .0) (c .loop-end-test .taken) (inv .1 .1) (c .if-text-end-eq10 .taken)) }
+          drop-behind (c .args .text .now) u z (c .args .i) (c .loop-end .end) 10 e
+          (line-ends (c .args .text .now) u z (c .args .i) (c .loop-end .end) e h (inv .0) (c .loop-end-test .taken) (inv .1 .1) (c .if-text-end-eq10 .taken));
+    }
 
 pub returns : need.returns
 returns c =
     let inv = c .loop-end .inv in
     record {
       within = inv .1 .0;
-      on = λ u z e h. absurd (no-line (c .args .text .now) u z (c .args .i) e (λ k p q. inv .1 .1 k p (omega (arith, c .loop-end-test .left)))) }
+      on = λ u z e h. absurd (no-line (c .args .text .now) u z (c .args .i) e (λ k p q. inv .1 .1 k p (omega (arith, c .loop-end-test .left))));
+    }

@@ -50,6 +50,11 @@ def same_order(program, field, turns, answer):
     return 'in the same order the reference tells: ' + told
 
 
+def confirmed(program, field, answer, orders, most=20000):
+    """Is the told race one of the races of these orders?"""
+    return any(answer in race_lines(to_the_end(program, field, turns, most)[0]) for turns in orders)
+
+
 def some_order(program, field, answer, most=200000):
     """Is the answer right if the machine took some order of its own? None if it is, else why not.
 

@@ -183,24 +183,33 @@ def random_program(random):
             return program, maker.field(program)
 
 
+def next_turn(random, style, possible, last):
+    """One of the possible turns: at random, the same lane again and again, each lane in turn, or the last lane first."""
+    if style == 'in turn':
+        behind = [t for t in possible if t > last]
+        return min(behind or possible)
+    if style == 'backwards':
+        return max(possible)
+    if last in possible and random.randrange(3):
+        return last
+    return random.choice(possible)
+
+
 def random_turns(random, program, field, most):
     """The beginning of some order: turns that can be done, now and then one that can't."""
     grid = Grid(program, field)
     turns = []
-    favourite = None
+    style = random.choice(['mixed', 'mixed', 'in turn', 'backwards'])
+    last = ()
     for _ in range(most):
         possible = grid.possible()
         if not possible:
             break
         if random.randrange(10) == 0:
             turns.append(random.choice([('of', random.randrange(field.groups + 1), random.randrange(field.lanes + 1)), ('release', random.randrange(field.groups + 1))]))
-        if favourite not in possible or random.randrange(4) == 0:
-            favourite = random.choice(possible)
-        if random.randrange(3):
-            turn = favourite
-        else:
-            turn = random.choice(possible)
-        if grid.can(turn):
-            turns.append(turn)
-            grid.do(turn)
+        if style == 'mixed' and random.randrange(4) == 0:
+            last = ()
+        last = next_turn(random, style, possible, last)
+        turns.append(last)
+        grid.do(last)
     return turns

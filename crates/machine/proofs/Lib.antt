@@ -11,3 +11,5 @@ mod Bits
 mod Working
 mod Planned
 mod Lined
+mod Standing
+mod Running

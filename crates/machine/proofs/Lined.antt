@@ -112,7 +112,7 @@ module _ (z : Sizes) (at : ℕ → Body) (words : List ℕ) (lines : ℕ) (ls cs
           after = λ d ts s. o .after at d ts stops ready s }
 
 -- what that is for the machine's row of turns
-all-fine : (g start mask many : ℕ) (r : Outcome) → Ends g start mask many r → r ≡ Fine → many ≡ 32
+pub all-fine : (g start mask many : ℕ) (r : Outcome) → Ends g start mask many r → r ≡ Fine → many ≡ 32
 all-fine g start mask many Fine e f = e
 all-fine g start mask many (Raced x) e f = absurd (let q : _≡_ {A = ℕ} 0 1 = cc in omega arith)
 all-fine g start mask many (Wrong h l) e f = absurd (let q : _≡_ {A = ℕ} 0 1 = cc in omega arith)

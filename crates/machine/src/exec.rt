@@ -55,7 +55,7 @@ pub fn do_lane(
     note(z, marks, g, l, phase, work.line, deed)
 }
 
-fn is_on(mask: u32, i: usize) -> bool
+pub fn is_on(mask: u32, i: usize) -> bool
     requires { ⌜ i < 32 ⌝ }
     ensures { λ r. ⌜ r ≡ on mask i ⌝ }
 {

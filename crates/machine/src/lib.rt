@@ -6,4 +6,5 @@ pub mod line;
 pub mod note;
 pub mod outcome;
 pub mod release;
+pub mod row;
 pub mod schedule;

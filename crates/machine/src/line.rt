@@ -96,7 +96,7 @@ fn seconds_of(text: &[u8], plan: Plan, z: Sizes, lanes: &[u32], row: Active, out
 }
 
 // The lanes of the mask are lanes of a group.
-fn is_inside(z: Sizes, row: Active) -> bool
+pub fn is_inside(z: Sizes, row: Active) -> bool
     requires { ⌜ Sized z ⌝ }
     ensures yes { λ r. ⌜ (r ≡ true → Row-in z (row .group) (row .start) (row .mask)) ⌝ }
     ensures no { λ r. ⌜ (Row-in z (row .group) (row .start) (row .mask) → r ≡ true) ⌝ }

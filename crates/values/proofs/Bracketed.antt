@@ -33,7 +33,7 @@ value-node Less v l g n e f = refl
 value-node Same v l g n e f = refl
 
 -- A byte tells the operator.
-same-op : (o p : Op) → byte-of o ≡ byte-of p → o ≡ p
+pub same-op : (o p : Op) → byte-of o ≡ byte-of p → o ≡ p
 same-op Plus Plus q = refl
 same-op Minus Minus q = refl
 same-op Times Times q = refl
@@ -92,26 +92,26 @@ module _ (ns : List (List ℕ)) (text : List ℕ) (n : Names-in ns text) (i : �
       ∙ ap (λ t. 40 ∷ t) (append-assoc (h .u) (32 ∷ byte-of (h .op) ∷ 32 ∷ (h .v ++ (41 ∷ []))) (s .behind))
       ∙ ap (λ t. 40 ∷ (h .u ++ (32 ∷ byte-of (h .op) ∷ 32 ∷ t))) (append-assoc (h .v) (41 ∷ []) (s .behind))
 
-  at-left : drop (i + 1) text ≡ h .u ++ (32 ∷ byte-of (h .op) ∷ 32 ∷ (h .v ++ (41 ∷ s .behind)))
+  pub at-left : drop (i + 1) text ≡ h .u ++ (32 ∷ byte-of (h .op) ∷ 32 ∷ (h .v ++ (41 ∷ s .behind)))
   at-left = sym (drop-drop 1 i text) ∙ ap (λ t. drop 1 t) opened
 
-  abbrev stands-left : Stands (Named ns) text (i + 1) (h .left)
+  abbrev pub stands-left : Stands (Named ns) text (i + 1) (h .left)
   stands-left = record { spelling = h .u; behind = 32 ∷ byte-of (h .op) ∷ 32 ∷ (h .v ++ (41 ∷ s .behind)); spells = h .spells-left; here = at-left; apart = refl }
 
-  long : length (s .spelling) ≡ length (h .u) + length (h .v) + 5
+  pub long : length (s .spelling) ≡ length (h .u) + length (h .v) + 5
   long =
       ap length (h .whole)
       ∙ ap suc (length-append (h .u) (32 ∷ byte-of (h .op) ∷ 32 ∷ (h .v ++ (41 ∷ []))) ∙ ap (λ m. length (h .u) + suc (suc (suc m))) (length-append (h .v) (41 ∷ [])))
       ∙ omega arith
 
   module _ (mid : ℕ) (is : mid ≡ (i + 1) + length (h .u)) where
-    at-mid : drop mid text ≡ 32 ∷ byte-of (h .op) ∷ 32 ∷ (h .v ++ (41 ∷ s .behind))
+    pub at-mid : drop mid text ≡ 32 ∷ byte-of (h .op) ∷ 32 ∷ (h .v ++ (41 ∷ s .behind))
     at-mid = ap (λ m. drop m text) is ∙ sym (drop-drop (length (h .u)) (i + 1) text) ∙ ap (λ t. drop (length (h .u)) t) at-left ∙ drop-at (h .u) _ _ refl
 
-    op-byte : getD text (mid + 1) 0 ≡ byte-of (h .op)
+    pub op-byte : getD text (mid + 1) 0 ≡ byte-of (h .op)
     op-byte = ap (λ m. getD text m 0) (omega (arith, is)) ∙ behind-part text (h .u) _ (i + 1) 1 at-left
 
-    abbrev stands-right : Stands (Named ns) text (mid + 3) (h .right)
+    abbrev pub stands-right : Stands (Named ns) text (mid + 3) (h .right)
     stands-right = record { spelling = h .v; behind = 41 ∷ s .behind; spells = h .spells-right; here = sym (drop-drop 3 mid text) ∙ ap (λ t. drop 3 t) at-mid; apart = refl }
 
 module _ (text : List ℕ) (i : ℕ) (own : List ℕ) (r : Row) (out : List ℕ) (mid : ℕ) (bracket : getD text i 0 ≡ 40) (one : Evaluated text (i + 1) own r out mid) where

@@ -117,39 +117,60 @@ coded-kept owns ws xs group i j h c = record { leaf = c .leaf; item = ap item-of
 coded-kept owns ws xs lanes i j h c = record { leaf = c .leaf; item = ap item-of (h i (omega arith) (omega (arith, c .next))) ∙ c .item; is = c .is; next = c .next }
 coded-kept owns ws xs (plus e f) i j h c =
     let a : i + 1 < c .0 = coded-on owns ws e (i + 1) (c .0) (c .2) in
-    let b : c .0 < j = coded-on owns ws f (c .0) j (c .3) in
-    (c .0, ap item-of (h i (omega arith) (omega arith)) ∙ c .1, coded-kept owns ws xs e (i + 1) (c .0) (λ k p q. h k (omega arith) (omega arith)) (c .2),
-      coded-kept owns ws xs f (c .0) j (λ k p q. h k (omega arith) q) (c .3))
+    let b : c .0 < j = coded-on owns ws f (c .0) j (c .3) in (
+      c .0,
+      ap item-of (h i (omega arith) (omega arith)) ∙ c .1,
+      coded-kept owns ws xs e (i + 1) (c .0) (λ k p q. h k (omega arith) (omega arith)) (c .2),
+      coded-kept owns ws xs f (c .0) j (λ k p q. h k (omega arith) q) (c .3),
+    )
 coded-kept owns ws xs (minus e f) i j h c =
     let a : i + 1 < c .0 = coded-on owns ws e (i + 1) (c .0) (c .2) in
-    let b : c .0 < j = coded-on owns ws f (c .0) j (c .3) in
-    (c .0, ap item-of (h i (omega arith) (omega arith)) ∙ c .1, coded-kept owns ws xs e (i + 1) (c .0) (λ k p q. h k (omega arith) (omega arith)) (c .2),
-      coded-kept owns ws xs f (c .0) j (λ k p q. h k (omega arith) q) (c .3))
+    let b : c .0 < j = coded-on owns ws f (c .0) j (c .3) in (
+      c .0,
+      ap item-of (h i (omega arith) (omega arith)) ∙ c .1,
+      coded-kept owns ws xs e (i + 1) (c .0) (λ k p q. h k (omega arith) (omega arith)) (c .2),
+      coded-kept owns ws xs f (c .0) j (λ k p q. h k (omega arith) q) (c .3),
+    )
 coded-kept owns ws xs (times e f) i j h c =
     let a : i + 1 < c .0 = coded-on owns ws e (i + 1) (c .0) (c .2) in
-    let b : c .0 < j = coded-on owns ws f (c .0) j (c .3) in
-    (c .0, ap item-of (h i (omega arith) (omega arith)) ∙ c .1, coded-kept owns ws xs e (i + 1) (c .0) (λ k p q. h k (omega arith) (omega arith)) (c .2),
-      coded-kept owns ws xs f (c .0) j (λ k p q. h k (omega arith) q) (c .3))
+    let b : c .0 < j = coded-on owns ws f (c .0) j (c .3) in (
+      c .0,
+      ap item-of (h i (omega arith) (omega arith)) ∙ c .1,
+      coded-kept owns ws xs e (i + 1) (c .0) (λ k p q. h k (omega arith) (omega arith)) (c .2),
+      coded-kept owns ws xs f (c .0) j (λ k p q. h k (omega arith) q) (c .3),
+    )
 coded-kept owns ws xs (over e f) i j h c =
     let a : i + 1 < c .0 = coded-on owns ws e (i + 1) (c .0) (c .2) in
-    let b : c .0 < j = coded-on owns ws f (c .0) j (c .3) in
-    (c .0, ap item-of (h i (omega arith) (omega arith)) ∙ c .1, coded-kept owns ws xs e (i + 1) (c .0) (λ k p q. h k (omega arith) (omega arith)) (c .2),
-      coded-kept owns ws xs f (c .0) j (λ k p q. h k (omega arith) q) (c .3))
+    let b : c .0 < j = coded-on owns ws f (c .0) j (c .3) in (
+      c .0,
+      ap item-of (h i (omega arith) (omega arith)) ∙ c .1,
+      coded-kept owns ws xs e (i + 1) (c .0) (λ k p q. h k (omega arith) (omega arith)) (c .2),
+      coded-kept owns ws xs f (c .0) j (λ k p q. h k (omega arith) q) (c .3),
+    )
 coded-kept owns ws xs (rest-of e f) i j h c =
     let a : i + 1 < c .0 = coded-on owns ws e (i + 1) (c .0) (c .2) in
-    let b : c .0 < j = coded-on owns ws f (c .0) j (c .3) in
-    (c .0, ap item-of (h i (omega arith) (omega arith)) ∙ c .1, coded-kept owns ws xs e (i + 1) (c .0) (λ k p q. h k (omega arith) (omega arith)) (c .2),
-      coded-kept owns ws xs f (c .0) j (λ k p q. h k (omega arith) q) (c .3))
+    let b : c .0 < j = coded-on owns ws f (c .0) j (c .3) in (
+      c .0,
+      ap item-of (h i (omega arith) (omega arith)) ∙ c .1,
+      coded-kept owns ws xs e (i + 1) (c .0) (λ k p q. h k (omega arith) (omega arith)) (c .2),
+      coded-kept owns ws xs f (c .0) j (λ k p q. h k (omega arith) q) (c .3),
+    )
 coded-kept owns ws xs (less e f) i j h c =
     let a : i + 1 < c .0 = coded-on owns ws e (i + 1) (c .0) (c .2) in
-    let b : c .0 < j = coded-on owns ws f (c .0) j (c .3) in
-    (c .0, ap item-of (h i (omega arith) (omega arith)) ∙ c .1, coded-kept owns ws xs e (i + 1) (c .0) (λ k p q. h k (omega arith) (omega arith)) (c .2),
-      coded-kept owns ws xs f (c .0) j (λ k p q. h k (omega arith) q) (c .3))
+    let b : c .0 < j = coded-on owns ws f (c .0) j (c .3) in (
+      c .0,
+      ap item-of (h i (omega arith) (omega arith)) ∙ c .1,
+      coded-kept owns ws xs e (i + 1) (c .0) (λ k p q. h k (omega arith) (omega arith)) (c .2),
+      coded-kept owns ws xs f (c .0) j (λ k p q. h k (omega arith) q) (c .3),
+    )
 coded-kept owns ws xs (same e f) i j h c =
     let a : i + 1 < c .0 = coded-on owns ws e (i + 1) (c .0) (c .2) in
-    let b : c .0 < j = coded-on owns ws f (c .0) j (c .3) in
-    (c .0, ap item-of (h i (omega arith) (omega arith)) ∙ c .1, coded-kept owns ws xs e (i + 1) (c .0) (λ k p q. h k (omega arith) (omega arith)) (c .2),
-      coded-kept owns ws xs f (c .0) j (λ k p q. h k (omega arith) q) (c .3))
+    let b : c .0 < j = coded-on owns ws f (c .0) j (c .3) in (
+      c .0,
+      ap item-of (h i (omega arith) (omega arith)) ∙ c .1,
+      coded-kept owns ws xs e (i + 1) (c .0) (λ k p q. h k (omega arith) (omega arith)) (c .2),
+      coded-kept owns ws xs f (c .0) j (λ k p q. h k (omega arith) q) (c .3),
+    )
 
 -- An operator before two expressions.
 pub coded-node : (op : Op) (owns : ℕ) (ws : List ℕ) (i m j : ℕ) (e f : Expr) → item-of (getD ws i 0) ≡ Apply op → Coded owns ws (i + 1) e m → Coded owns ws m f j → Coded owns ws i (node op e f) j

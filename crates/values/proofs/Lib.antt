@@ -6,3 +6,4 @@ mod Standing
 mod Bracketed
 mod Coding
 mod Unpacking
+mod Packing

@@ -20,16 +20,24 @@ use Rattle.values.proofs.Coding.{Node-coded, coded-word, coded-apply, coded-no
 
 pub unpacked-none : (ws : List ℕ) (i : ℕ) (own : List ℕ) (r : Row) (out : List ℕ) → item-of (getD ws i 0) ≡ Nothing → Unpacked ws i own r out i
 unpacked-none ws i own r out q =
-    record { from = omega arith; within = λ h. h;
-      stop = λ e k c. absurd (coded-none (r .owns) ws i k q e c); each = λ e k c. absurd (coded-none (r .owns) ws i k q e c) }
+    record {
+      from = omega arith;
+      within = λ h. h;
+      stop = λ e k c. absurd (coded-none (r .owns) ws i k q e c);
+      each = λ e k c. absurd (coded-none (r .owns) ws i k q e c);
+    }
 
 pub unpacked-past : (ws : List ℕ) (i : ℕ) (own : List ℕ) (r : Row) (out : List ℕ) → length ws ≤ i → Unpacked ws i own r out i
 unpacked-past ws i own r out h = unpacked-none ws i own r out (ap item-of (getD-past ws i 0 h))
 
 pub unpacked-word : (ws : List ℕ) (i : ℕ) (own : List ℕ) (r : Row) (out : List ℕ) (leaf : Leaf) → i < length ws → item-of (getD ws i 0) ≡ Word leaf → Leaf-worth leaf own r out → Unpacked ws i own r out (i + 1)
 unpacked-word ws i own r out leaf h q worth =
-    record { from = omega arith; within = λ _. omega arith;
-      stop = λ e k c. sym (coded-word (r .owns) ws i k leaf q e c .1); each = λ e k c. worth e (coded-word (r .owns) ws i k leaf q e c .0) }
+    record {
+      from = omega arith;
+      within = λ _. omega arith;
+      stop = λ e k c. sym (coded-word (r .owns) ws i k leaf q e c .1);
+      each = λ e k c. worth e (coded-word (r .owns) ws i k leaf q e c .0);
+    }
 
 module _ (ws : List ℕ) (i : ℕ) (own : List ℕ) (r : Row) (out : List ℕ) (mid : ℕ) (right : List ℕ) (end : ℕ) (op : Op) (all : List ℕ) (here : i < length ws) (q : item-of (getD ws i 0) ≡ Apply op) (one : Unpacked ws (i + 1) own r out mid) (two : Unpacked ws mid own r right end) (wide : length right ≡ length out) (done : Applied op out right all) where
   module _ (e : Expr) (j : ℕ) (c : Coded (r .owns) ws i e j) where
@@ -55,5 +63,9 @@ module _ (ws : List ℕ) (i : ℕ) (own : List ℕ) (r : Row) (out : List ℕ) (
 
   pub unpacked-apply : Unpacked ws i own r all end
   unpacked-apply =
-      record { from = omega (arith, one .from, two .from); within = λ _. two .within (one .within (omega arith));
-        stop = λ e k c. two .stop (parts e k c .right) k (right-there e k c); each = worth }
+      record {
+        from = omega (arith, one .from, two .from);
+        within = λ _. two .within (one .within (omega arith));
+        stop = λ e k c. two .stop (parts e k c .right) k (right-there e k c);
+        each = worth;
+      }

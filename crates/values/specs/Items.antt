@@ -2,7 +2,7 @@
 use mathlib.Core.Path.{_≡_}
 use mathlib.Core.Bool.{cond}
 use mathlib.Core.List.{List}
-use Prim.Native.Nat.{ℕ, _+_, _/_, _%_, _≤_}
+use Prim.Native.Nat.{ℕ, _+_, _/_, _%_, _≤_, _<_}
 use lib.Dec.{eqb}
 use lib.ListN.{length, getD}
 use Rattle.lanes.specs.Syntax.{Expr, fixed, var, lane, group, lanes, plus, minus, times, over, rest-of, less, same}
@@ -12,7 +12,11 @@ use Rattle.values.specs.declared.leaves.Leaf.{Leaf}
 use Rattle.values.specs.declared.leaves.Leaf.the-variants.{Fixed, Own, Lane, Group, Lanes}
 use Rattle.values.specs.declared.items.Item.{Item}
 use Rattle.values.specs.declared.items.Item.the-variants.{Word, Apply, Nothing}
+use Rattle.grammar.specs.Spelling.{Named}
+use Rattle.grammar.specs.Stands.{Stands}
+use Rattle.grammar.specs.Names.{Names-in, Distinct}
 use Rattle.values.specs.declared.row.Row.{Row}
+use Rattle.values.specs.declared.packed.Behind.{Behind}
 use Rattle.values.specs.Worth.{Leaf-is}
 use Rattle.values.specs.Rows.{Values}
 
@@ -72,3 +76,11 @@ pub record Unpacked (ws : List ℕ) (i : ℕ) (own : List ℕ) (r : Row) (out : 
   pub within : i ≤ length ws → j ≤ length ws
   pub stop : (e : Expr) (k : ℕ) → Coded (r .owns) ws i e k → j ≡ k
   pub each : (e : Expr) (k : ℕ) → Coded (r .owns) ws i e k → Values r own e out
+
+-- The words hold from place `from` on the expression that stands at byte i of the text; b says what is behind it in the text and in
+-- the words.
+pub record Packed (text : List ℕ) (i : ℕ) (ws : List ℕ) (from : ℕ) (b : Behind) : Type 0 where
+  pub more : from < b .word
+  pub inside : b .byte ≤ length text
+  pub stop : (ns : List (List ℕ)) → Names-in ns text → Distinct ns → (e : Expr) → (s : Stands (Named ns) text i e) → b .byte ≡ i + length (s .spelling)
+  pub code : (ns : List (List ℕ)) → Names-in ns text → Distinct ns → (owns : ℕ) → length ns ≤ owns → (e : Expr) → Stands (Named ns) text i e → Coded owns ws from e (b .word)

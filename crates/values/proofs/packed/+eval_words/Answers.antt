@@ -15,7 +15,7 @@ returns-in-Word t c =
 pub returns-in-Apply : need.returns-in-Apply
 returns-in-Apply t c =
     unpacked-apply (c .args .words .now) (c .args .at) (c .args .own .now) (c .args .row) _ _ _ _ (c .in-Apply .op) _ (c .if-at-words .left) (sym (c .unpack .ensures) ∙ c .in-Apply .is)
-      (c .eval-words-mid .ensures) (c .eval-words-end .ensures) (search (needs, places)) (c .apply-row .ensures)
+    (c .eval-words-mid .ensures) (c .eval-words-end .ensures) (search (needs, places)) (c .apply-row .ensures)
 
 pub returns-in-Nothing : need.returns-in-Nothing
 returns-in-Nothing t c = unpacked-none (c .args .words .now) (c .args .at) (c .args .own .now) (c .args .row) _ (sym (c .unpack .ensures) ∙ c .in-Nothing .is)

@@ -4,5 +4,6 @@ pub mod items;
 pub mod leaves;
 pub mod ops;
 pub mod packed;
+pub mod ready;
 pub mod row;
 pub mod rows;

@@ -45,5 +45,10 @@ pub fn spot_of(text: &[u8], i: usize) -> Spot
             start = k + 1;
         }
     }
-    Spot { line: line + 1, column: place - start + 1, start, end: line_end(text, place) }
+    Spot {
+        line: line + 1,
+        column: place - start + 1,
+        start,
+        end: line_end(text, place),
+    }
 }

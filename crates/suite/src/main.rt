@@ -1,6 +1,7 @@
 // Runs the tables of cases through the public calls. docs/TESTS.md says what the files look like.
 mod cases;
 mod fields;
+mod prints;
 mod texts;
 
 use std::io;
@@ -11,5 +12,6 @@ fn main(rt: LibcRuntime) -> io::Result<()> {
     println!(rt, "texts written anew: {right} right")?;
     let file = cli::read(&rt, "fields")?;
     let right = fields::run_all(&rt, file.as_slice())?;
-    println!(rt, "fields: {right} right")
+    println!(rt, "fields: {right} right")?;
+    prints::print_all(&rt)
 }

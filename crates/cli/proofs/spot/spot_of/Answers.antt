@@ -26,9 +26,13 @@ module _ (t : List ℕ) (k line start line′ start′ : ℕ) (h : k < length t)
       the-same j r = omega arith
 
   same-line : (getD t k 0 ≡ 10 → ⊥) → line′ ≡ line → start′ ≡ start → Inv k line start → Inv (k + 1) line′ start′
-  same-line e p q i =
-      (omega (arith, no-newline-here t k h e, i .0), omega arith, omega arith, λ j r. i .3 j (sym q ∙ r),
-        λ j a b. elim (cases-eq j k) [ inl f ↦ rw f e | inr f ↦ i .4 j (omega arith) (omega arith) ])
+  same-line e p q i = (
+    omega (arith, no-newline-here t k h e, i .0),
+    omega arith,
+    omega arith,
+    λ j r. i .3 j (sym q ∙ r),
+    λ j a b. elim (cases-eq j k) [ inl f ↦ rw f e | inr f ↦ i .4 j (omega arith) (omega arith) ],
+  )
 
 pub loop-k-again : need.loop-k-again
 loop-k-again c =

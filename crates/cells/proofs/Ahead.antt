@@ -35,7 +35,7 @@ ahead-err [] i = refl
 ahead-err (x ∷ xs) i = ap (with-cell x) (ahead-err xs i)
 
 -- One byte on, by what it makes of the part.
-abbrev onward : Bool → ℕ → List ℕ → Next → Result (List ℕ) ℕ
+abbrev pub onward : Bool → ℕ → List ℕ → Next → Result (List ℕ) ℕ
 onward hex i cs (On q) = cells-from hex q (i + 1) cs
 onward hex i cs (Whole v) = with-cell v (cells-from hex between-words (i + 1) cs)
 onward hex i cs Bad = Err i
@@ -46,7 +46,7 @@ onward-is hex i cs (On q) = refl
 onward-is hex i cs (Whole v) = refl
 onward-is hex i cs Bad = refl
 
-cons-is : (hex : Bool) (p : Part) (i c : ℕ) (cs : List ℕ) → cells-from hex p i (c ∷ cs) ≡ onward hex i cs (step-as hex p c)
+pub cons-is : (hex : Bool) (p : Part) (i c : ℕ) (cs : List ℕ) → cells-from hex p i (c ∷ cs) ≡ onward hex i cs (step-as hex p c)
 unfolding cells-from
 cons-is hex p i c cs = onward-is hex i cs (step-as hex p c)
 
@@ -65,7 +65,7 @@ ended-is i (On q) = refl
 ended-is i (Whole v) = refl
 ended-is i Bad = refl
 
-nil-is : (hex : Bool) (p : Part) (i : ℕ) → cells-from hex p i [] ≡ ended i (step-as hex p 10)
+pub nil-is : (hex : Bool) (p : Part) (i : ℕ) → cells-from hex p i [] ≡ ended i (step-as hex p 10)
 unfolding cells-from
 nil-is hex p i = ended-is i (step-as hex p 10)
 

@@ -4,6 +4,7 @@ ghost use mathlib.Core.Bool.{true, false};
 ghost use Prim.Native.Nat.{_+_, _*_, _≤_, min};
 ghost use lib.ListN.{length, take, drop};
 ghost use Rattle.cells.specs.Scan.{begins-field, cells-from, cells-in, between-words};
+ghost use Rattle.cells.specs.Back.{Printed-back};
 ghost use Rattle.cells.specs.Post.{Reads, is-end};
 ghost use Rattle.std.specs.shelf.Lists.{countBy};
 use crate::scan::Next;
@@ -114,4 +115,11 @@ pub fn word_at(text: &[u8], at: usize) -> &[u8]
     let from = word_begin(text, at);
     let to = word_end(text, at);
     &text[from..to]
+}
+
+// What is printed of a field is read as its cells.
+pub fn printed_back_stands() -> u8
+    ensures { λ _. ⌜ Printed-back ⌝ }
+{
+    0
 }

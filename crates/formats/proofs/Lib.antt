@@ -5,3 +5,4 @@ pub mod Words
 pub mod Bounds
 pub mod Again
 pub mod Fault
+pub mod Order

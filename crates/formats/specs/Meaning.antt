@@ -1,6 +1,8 @@
 -- What the printed words mean: what is told, as the language's meaning has it.
+use mathlib.Core.Bool.{Bool, cond, _&&_, _||_}
 use mathlib.Core.List.{List}
 use Prim.Native.Nat.{ℕ, suc}
+use lib.Dec.{ltb, eqb}
 use Rattle.lanes.specs.Grid.{Mark}
 use Rattle.lanes.specs.Told as meaning
 use Rattle.formats.specs.declared.told.Place.{Place}
@@ -30,3 +32,11 @@ meant (Race place cell first second) cs = meaning.races (mark-of place cell firs
 meant (Wrong group lane) cs = meaning.missing group lane
 meant (Stuck group) cs = meaning.stuck group
 meant TooLong cs = meaning.too-long
+
+-- The touch of b is told before that of a.
+abbrev pub goes-first : (b a : Touch) → Bool
+goes-first b a = ltb (b .group) (a .group) || (eqb (b .group) (a .group) && ltb (b .lane) (a .lane))
+
+-- A race of two touches in the order in which they are told.
+abbrev pub in-order : Place → ℕ → Touch → Touch → Told
+in-order place cell a b = cond (goes-first b a) (Race place cell b a) (Race place cell a b)

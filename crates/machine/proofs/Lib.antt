@@ -13,3 +13,4 @@ mod Planned
 mod Lined
 mod Standing
 mod Running
+mod Counting

@@ -51,7 +51,7 @@ module _ (z : Sizes) (at : ℕ → Body) (ls cs : List ℕ) where
   passed-all g l p all (release h) = elim (cases-lt h g) [ inl q ↦ p (release h) q | inr q ↦ cannot-outside z at ls cs h (omega arith) ]
 
 -- what a turn of another lane leaves
-turn-can : (n : ℕ) (d : Grid) (x u : Turn) → Apart x u → can n (turn n d x) u ≡ can n d u
+pub turn-can : (n : ℕ) (d : Grid) (x u : Turn) → Apart x u → can n (turn n d x) u ≡ can n d u
 turn-can n d x u a = elim (cases-bool (can n d x)) [ inl c ↦ rw (turn-did n d x c) (same-can n d x u a) | inr c ↦ rw (turn-idle n d x c) ]
 
 pub passed-step : (n : ℕ) (d : Grid) (g l : ℕ) → Passed n d g l → Passed n (turn n d (of g l)) g l

@@ -5,3 +5,4 @@ pub mod Masks
 pub mod Schedule
 pub mod Moves
 pub mod Plans
+pub mod Script

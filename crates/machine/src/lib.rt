@@ -9,3 +9,4 @@ pub mod outcome;
 pub mod release;
 pub mod row;
 pub mod schedule;
+pub mod script;

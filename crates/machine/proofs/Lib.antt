@@ -14,3 +14,4 @@ mod Lined
 mod Standing
 mod Running
 mod Counting
+mod Scripted

@@ -7,6 +7,13 @@ use lib.Chars.{codes}
 use lib.Dec.{eqb}
 use lib.ListN.{length, getD, drop}
 use Rattle.grammar.specs.Spelling.{digit, each-byte, Is-number}
+use Rattle.std.specs.Of.Vec.{vec-items}
+use Rattle.std.specs.declared.alloc.Global.{Global}
+use Rattle.std.specs.declared.result.Result.{Result}
+use Rattle.std.specs.declared.result.Result.the-variants.{Ok, Err}
+use Rattle.std.specs.declared.vec.Vec.{Vec}
+use Rattle.machine.specs.declared.script.Fault.{Fault}
+use Rattle.machine.specs.declared.script.Fault.the-variants.{NoTurn, NoMemory}
 use Rattle.machine.specs.declared.script.Written.{Written}
 use Rattle.machine.specs.declared.script.Written.the-variants.{Of, Release}
 
@@ -48,3 +55,15 @@ Goes-on P (Release g) n = P g n
 abbrev pub Turn-here : List ℕ → ℕ → Written → ℕ → Type 0
 Turn-here bytes i (Of g l) n = (a : ℕ) × Bytes-here bytes (codes "of ") i a × Of-here bytes a g l n
 Turn-here bytes i (Release g) n = (a : ℕ) × Bytes-here bytes (codes "release ") i a × Release-here bytes a g n
+
+-- From byte i up to byte j stand the lines of these turns, one after the other.
+unfoldable pub Turns-here : List ℕ → ℕ → List Written → ℕ → Type 0
+Turns-here bytes i [] j = i ≡ j
+Turns-here bytes i (w ∷ ws) j = (k : ℕ) × Turn-here bytes i w k × Turns-here bytes k ws j
+
+-- A file of turns is read as these turns; or its line with that number, counted from 1, is no turn, and those before it are; or there is no memory.
+abbrev pub Script-read : List ℕ → Result (Vec Written Global) Fault → Type 0
+Script-read bytes (Ok v) = Turns-here bytes 0 (vec-items v) (length bytes)
+Script-read bytes (Err (NoTurn line)) =
+    (ws : List Written) × (i : ℕ) × Turns-here bytes 0 ws i × (line ≡ length ws + 1) × (i < length bytes) × ((w : Written) (n : ℕ) → Turn-here bytes i w n → ⊥)
+Script-read bytes (Err NoMemory) = Unit {0}

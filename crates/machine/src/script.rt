@@ -3,9 +3,10 @@ ghost use mathlib.Core.Path.{_≡_};
 ghost use Prim.Native.Nat.{ℕ};
 ghost use Rattle.std.specs.Options.{Cases as BySome};
 ghost use Rattle.machine.specs.declared.script.Written.{Written};
-ghost use Rattle.machine.specs.Script.{Digits-here, Bytes-here, Plain, Of-here, Release-here, Turns-at, Goes-on, Turn-here};
+ghost use Rattle.machine.specs.Script.{Digits-here, Bytes-here, Plain, Of-here, Release-here, Turns-at, Goes-on, Turn-here, Script-read};
 use grammar::numbers::read_number;
 use grammar::tokens::expect;
+use std::alloc::Global;
 
 // A step of a lane, or that a group goes on.
 #[derive(Clone, Copy)]
@@ -26,7 +27,10 @@ fn small_at(bytes: &[u8], i: usize) -> Option<Small>
     ensures { λ r. ⌜ BySome r ((v j : ℕ) → Digits-here (now (bytes .entry)) i v j → ⊥) (λ s. Digits-here (now (bytes .entry)) i (s .value) (s .end)) ⌝ }
 {
     let number = read_number(bytes, i);
-    if number.end <= i || number.value >= 4294967296 {
+    if number.end <= i {
+        return None;
+    }
+    if number.value >= 4294967296 {
         return None;
     }
     Some(Small { value: number.value as u32, end: number.end })
@@ -79,4 +83,31 @@ pub fn read_turn(bytes: &[u8], i: usize) -> Option<Reading>
     }
     let at = behind(bytes, i, b"release ")?;
     group_turn(bytes, at)
+}
+
+// Why a file of turns is not read.
+#[derive(Clone, Copy)]
+pub enum Fault {
+    NoTurn { line: usize },
+    NoMemory,
+}
+
+// The turns of a whole file.
+pub fn read_turns(heap: Global, bytes: &[u8]) -> Result<Vec<Written>, Fault>
+    ensures { λ r. ⌜ Script-read (now (bytes .entry)) r ⌝ }
+{
+    let mut turns = Vec::new(heap);
+    let mut at = 0;
+    let mut line: usize = 1;
+    while at < bytes.len() {
+        let Some(reading) = read_turn(bytes, at) else {
+            return Err(Fault::NoTurn { line });
+        };
+        let Ok(()) = turns.push(reading.turn) else {
+            return Err(Fault::NoMemory);
+        };
+        at = reading.next;
+        line += 1;
+    }
+    Ok(turns)
 }

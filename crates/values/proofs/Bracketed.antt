@@ -7,6 +7,7 @@ use native.Mathlib.Omega.{arith}
 use native.Mathlib.Nat.{add-assoc}
 use lib.ListN.{length, getD, drop, take}
 use Rattle.std.proofs.shelf.Lists.{length-append, drop-drop, drop-at}
+use Rattle.std.proofs.shelf.Ways.{tells}
 use Rattle.lanes.specs.Syntax.{Expr}
 use Rattle.lanes.specs.Step.{value}
 use Rattle.grammar.specs.Spelling.{Named, Spells-expr, infix-of}
@@ -34,55 +35,7 @@ value-node Same v l g n e f = refl
 
 -- A byte tells the operator.
 pub same-op : (o p : Op) → byte-of o ≡ byte-of p → o ≡ p
-same-op Plus Plus q = refl
-same-op Minus Minus q = refl
-same-op Times Times q = refl
-same-op Over Over q = refl
-same-op Rest Rest q = refl
-same-op Less Less q = refl
-same-op Same Same q = refl
-same-op Plus Minus q = absurd (omega (arith, q))
-same-op Plus Times q = absurd (omega (arith, q))
-same-op Plus Over q = absurd (omega (arith, q))
-same-op Plus Rest q = absurd (omega (arith, q))
-same-op Plus Less q = absurd (omega (arith, q))
-same-op Plus Same q = absurd (omega (arith, q))
-same-op Minus Plus q = absurd (omega (arith, q))
-same-op Minus Times q = absurd (omega (arith, q))
-same-op Minus Over q = absurd (omega (arith, q))
-same-op Minus Rest q = absurd (omega (arith, q))
-same-op Minus Less q = absurd (omega (arith, q))
-same-op Minus Same q = absurd (omega (arith, q))
-same-op Times Plus q = absurd (omega (arith, q))
-same-op Times Minus q = absurd (omega (arith, q))
-same-op Times Over q = absurd (omega (arith, q))
-same-op Times Rest q = absurd (omega (arith, q))
-same-op Times Less q = absurd (omega (arith, q))
-same-op Times Same q = absurd (omega (arith, q))
-same-op Over Plus q = absurd (omega (arith, q))
-same-op Over Minus q = absurd (omega (arith, q))
-same-op Over Times q = absurd (omega (arith, q))
-same-op Over Rest q = absurd (omega (arith, q))
-same-op Over Less q = absurd (omega (arith, q))
-same-op Over Same q = absurd (omega (arith, q))
-same-op Rest Plus q = absurd (omega (arith, q))
-same-op Rest Minus q = absurd (omega (arith, q))
-same-op Rest Times q = absurd (omega (arith, q))
-same-op Rest Over q = absurd (omega (arith, q))
-same-op Rest Less q = absurd (omega (arith, q))
-same-op Rest Same q = absurd (omega (arith, q))
-same-op Less Plus q = absurd (omega (arith, q))
-same-op Less Minus q = absurd (omega (arith, q))
-same-op Less Times q = absurd (omega (arith, q))
-same-op Less Over q = absurd (omega (arith, q))
-same-op Less Rest q = absurd (omega (arith, q))
-same-op Less Same q = absurd (omega (arith, q))
-same-op Same Plus q = absurd (omega (arith, q))
-same-op Same Minus q = absurd (omega (arith, q))
-same-op Same Times q = absurd (omega (arith, q))
-same-op Same Over q = absurd (omega (arith, q))
-same-op Same Rest q = absurd (omega (arith, q))
-same-op Same Less q = absurd (omega (arith, q))
+same-op o p q = grind (arith, tells)
 
 -- The bracket's halves, and what is behind each.
 module _ (ns : List (List ℕ)) (text : List ℕ) (n : Names-in ns text) (i : ℕ) (e : Expr) (s : Stands (Named ns) text i e) (h : Halves ns e (s .spelling)) where

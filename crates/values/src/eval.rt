@@ -1,10 +1,8 @@
 // The value of an expression for all lanes of a row.
 ghost use mathlib.Core.Logic.{_≢_};
 ghost use mathlib.Core.Path.{_≡_};
-ghost use mathlib.Core.List.{List};
 ghost use Prim.Native.Nat.{ℕ, _+_, _<_, _≤_, _^_};
-ghost use lib.ListN.{length, getD, take, drop};
-ghost use Rattle.lanes.specs.Syntax.{Expr};
+ghost use lib.ListN.{length, getD};
 ghost use Rattle.values.specs.Rows.{Row-fits, Leaf-worth, Evaluated};
 use crate::leaves::Leaf;
 use crate::leaves::leaf_of;

@@ -1,4 +1,4 @@
-// The operators, on numbers and on rows of them.
+// The operators, on numbers.
 ghost use mathlib.Core.Path.{_≡_};
 ghost use Rattle.lanes.specs.Step.{sum-of, difference-of, product-of, quotient-of, remainder-of, less-of, same-of};
 ghost use Rattle.values.specs.Ops.{op-of, Op-at};

@@ -1,4 +1,5 @@
 pub mod Left
+pub mod Walks
 pub mod Rights
 pub mod Entries
 pub mod Chains
@@ -11,3 +12,4 @@ pub mod Inside
 pub mod Makes
 pub mod Parts
 pub mod Wholes
+pub mod Nests

@@ -15,7 +15,8 @@ use Rattle.code.specs.declared.step.Step.{Step}
 use Rattle.code.specs.declared.step.Step.the-variants.{Put, Read, Write, Branch, Jump, Barrier, End}
 use Rattle.code.specs.Lines.{lines-of, else-lines, left-at}
 use Rattle.code.specs.Code.{Does, Goes, Onward, is-loop, Codes, Coded, If-here, While-here, Code-right, behind-if, behind-while}
-use Rattle.code.proofs.Left.{followed-assoc, followed-end, end-followed, left-zero, left-last, else-some, else-none, when-lines, when-first, when-second, when-behind, while-first, while-behind}
+use Rattle.code.proofs.Walks.{from-next, from-if, from-while}
+use Rattle.code.proofs.Left.{ended-is, followed-assoc, followed-end, end-followed, left-zero, left-last, else-some, else-none, when-lines, when-first, when-second, when-behind, while-first, while-behind}
 
 module _ (at : ℕ → Body) where
   -- The body b stands from entry o on, and k is behind it.
@@ -57,18 +58,6 @@ module _ (at : ℕ → Body) where
       let p : suc o + suc (lines-of c) + i ≡ o + suc (suc (lines-of c) + i) = omega arith in
       ap at p ∙ s (suc (suc (lines-of c) + i)) (omega arith) ∙ ap (λ x. followed x k) (when-second e c d b (suc (lines-of c) + i) i refl (omega arith)) ∙ followed-assoc (left-at d i) b k
 
-  ended-is : (d : Body) → ended d ≡ true → d ≡ end
-  unfolding ended
-  ended-is end h = refl
-  ended-is (put k e b) h = cc
-  ended-is (read-shared k e b) h = cc
-  ended-is (write-shared e f b) h = cc
-  ended-is (read-all k e b) h = cc
-  ended-is (write-all e f b) h = cc
-  ended-is (barrier b) h = cc
-  ended-is (when e c d b) h = cc
-  ended-is (while e c b) h = cc
-
   second-here : (o : ℕ) (e : Expr) (c d b k : Body) → Sits o (when e c d b) k → at (suc o + suc (lines-of c)) ≡ followed d (followed b k)
   second-here o e c d b k s =
       elim (cases-bool (ended d)) [
@@ -102,109 +91,59 @@ module _ (at : ℕ → Body) where
     fine-by : (o : ℕ) (s : Step) → code o ≡ s → Does N text at s (at o) → Goes owns lines s → Onward code o s → Fine o
     fine-by o s q d g w = record { does = rw q d; goes = rw q g; onward = rw q w }
 
-    -- An entry whose step goes on to the next one.
-    Next : ℕ → Body → Body → Type 0
-    Next o b k = (Fine o) × ((i : ℕ) → i < lines-of b → Fine (suc o + i))
-
-    from-next : (o : ℕ) (b k : Body) (i : ℕ) → i < suc (lines-of b) → Next o b k → Fine (o + i)
-    unfolding Next
-    from-next o b k zero h n = moved o (o + 0) (omega arith) (n .0)
-    from-next o b k (suc i) h n = moved (suc o + i) (o + suc i) (omega arith) (n .1 i (omega arith))
-
     -- What is left at an entry and at the next.
     here : (o : ℕ) (b c k : Body) → lines-of b ≡ suc (lines-of c) → ((i : ℕ) → left-at b (suc i) ≡ left-at c i) → Sits o b k → (at o ≡ followed b k) × (at (suc o) ≡ followed c k)
     here o b c k n l s = (sits-here o b k s, sits-here (suc o) c k (sits-next o b c k n l s))
 
-    -- The entries of an if behind its first: each of its parts is fine, and so are the jumps.
-    from-if : (o : ℕ) (e : Expr) (c d b : Body) (i : ℕ) → i < lines-of (when e c d b) → Fine o → ((j : ℕ) → j < lines-of c → Fine (suc o + j)) → Fine (suc o + lines-of c)
-        → ((j : ℕ) → j < lines-of d → Fine (suc o + suc (lines-of c) + j)) → (ended d ≡ false → Fine (suc o + suc (lines-of c) + lines-of d))
-        → ((j : ℕ) → j < lines-of b → Fine (suc o + suc (lines-of c) + else-lines d + j)) → Fine (o + i)
-    from-if o e c d b zero h f fc m fd l fb = moved o (o + 0) (omega arith) f
-    from-if o e c d b (suc i) h f fc m fd l fb =
-        let n = when-lines e c d b in
-        elim (cases-order i (lines-of c)) [
-          | inl p ↦ moved (suc o + lines-of c) (o + suc i) (omega arith) m
-          | inr (inl p) ↦ moved (suc o + i) (o + suc i) (omega arith) (fc i p)
-          | inr (inr p) ↦ elim (cases-bool (ended d)) [
-            | inl q ↦ let z = else-none d q in
-                moved (suc o + suc (lines-of c) + else-lines d + (i - suc (lines-of c))) (o + suc i) (omega arith) (fb (i - suc (lines-of c)) (omega arith))
-            | inr q ↦ let z = else-some d q in
-                elim (cases-order (i - suc (lines-of c)) (lines-of d)) [
-                  | inl r ↦ moved (suc o + suc (lines-of c) + lines-of d) (o + suc i) (omega arith) (l q)
-                  | inr (inl r) ↦ moved (suc o + suc (lines-of c) + (i - suc (lines-of c))) (o + suc i) (omega arith) (fd (i - suc (lines-of c)) r)
-                  | inr (inr r) ↦
-                      moved (suc o + suc (lines-of c) + else-lines d + ((i - suc (lines-of c)) - suc (lines-of d))) (o + suc i) (omega arith)
-                      (fb ((i - suc (lines-of c)) - suc (lines-of d)) (omega arith))
-                ]
-          ]
-        ]
-
-    from-while : (o : ℕ) (e : Expr) (c b : Body) (i : ℕ) → i < lines-of (while e c b) → Fine o → ((j : ℕ) → j < lines-of c → Fine (suc o + j)) → Fine (suc o + lines-of c)
-        → ((j : ℕ) → j < lines-of b → Fine (suc o + suc (lines-of c) + j)) → Fine (o + i)
-    unfolding lines-of
-    from-while o e c b zero h f fc m fb = moved o (o + 0) (omega arith) f
-    from-while o e c b (suc i) h f fc m fb =
-        elim (cases-order i (lines-of c)) [
-          | inl p ↦ moved (suc o + lines-of c) (o + suc i) (omega arith) m
-          | inr (inl p) ↦ moved (suc o + i) (o + suc i) (omega arith) (fc i p)
-          | inr (inr p) ↦ moved (suc o + suc (lines-of c) + (i - suc (lines-of c))) (o + suc i) (omega arith) (fb (i - suc (lines-of c)) (omega arith))
-        ]
-
     codes-fine : (o : ℕ) (b k : Body) → Codes N text owns code o b → Sits o b k → o + lines-of b ≤ lines → (i : ℕ) → i < lines-of b → Fine (o + i)
-    unfolding Codes Next left-at lines-of followed
+    unfolding Codes left-at lines-of followed
     codes-fine o end k cs s r i h = let z : ⊥ = omega arith in absurd z
     codes-fine o (put j e b) k cs s r i h =
         let p = here o (put j e b) b k refl (λ _. refl) s in
         let n = sits-next o (put j e b) b k refl (λ _. refl) s in
-        from-next o b k i h (
-          fine-by o _ (cs .1 .2) (e, cs .1 .1, rw (p .1) (p .0)) (cs .0, omega arith) tt,
-          codes-fine (suc o) b k (cs .2) n (omega arith),
-        )
+        from-next Fine o b i h
+        (fine-by o _ (cs .1 .2) (e, cs .1 .1, rw (p .1) (p .0)) (cs .0, omega arith) refl)
+        (codes-fine (suc o) b k (cs .2) n (omega arith))
     codes-fine o (read-shared j e b) k cs s r i h =
         let p = here o (read-shared j e b) b k refl (λ _. refl) s in
         let n = sits-next o (read-shared j e b) b k refl (λ _. refl) s in
-        from-next o b k i h (
-          fine-by o _ (cs .1 .2) (e, cs .1 .1, rw (p .1) (p .0)) (cs .0, omega arith) tt,
-          codes-fine (suc o) b k (cs .2) n (omega arith),
-        )
+        from-next Fine o b i h
+        (fine-by o _ (cs .1 .2) (e, cs .1 .1, rw (p .1) (p .0)) (cs .0, omega arith) refl)
+        (codes-fine (suc o) b k (cs .2) n (omega arith))
     codes-fine o (write-shared e f b) k cs s r i h =
         let p = here o (write-shared e f b) b k refl (λ _. refl) s in
         let n = sits-next o (write-shared e f b) b k refl (λ _. refl) s in
-        from-next o b k i h (
-          fine-by o _ (cs .0 .4) (e, f, cs .0 .2, cs .0 .3, rw (p .1) (p .0)) (omega arith) tt,
-          codes-fine (suc o) b k (cs .1) n (omega arith),
-        )
+        from-next Fine o b i h
+        (fine-by o _ (cs .0 .4) (e, f, cs .0 .2, cs .0 .3, rw (p .1) (p .0)) (omega arith) refl)
+        (codes-fine (suc o) b k (cs .1) n (omega arith))
     codes-fine o (read-all j e b) k cs s r i h =
         let p = here o (read-all j e b) b k refl (λ _. refl) s in
         let n = sits-next o (read-all j e b) b k refl (λ _. refl) s in
-        from-next o b k i h (
-          fine-by o _ (cs .1 .2) (e, cs .1 .1, rw (p .1) (p .0)) (cs .0, omega arith) tt,
-          codes-fine (suc o) b k (cs .2) n (omega arith),
-        )
+        from-next Fine o b i h
+        (fine-by o _ (cs .1 .2) (e, cs .1 .1, rw (p .1) (p .0)) (cs .0, omega arith) refl)
+        (codes-fine (suc o) b k (cs .2) n (omega arith))
     codes-fine o (write-all e f b) k cs s r i h =
         let p = here o (write-all e f b) b k refl (λ _. refl) s in
         let n = sits-next o (write-all e f b) b k refl (λ _. refl) s in
-        from-next o b k i h (
-          fine-by o _ (cs .0 .4) (e, f, cs .0 .2, cs .0 .3, rw (p .1) (p .0)) (omega arith) tt,
-          codes-fine (suc o) b k (cs .1) n (omega arith),
-        )
+        from-next Fine o b i h
+        (fine-by o _ (cs .0 .4) (e, f, cs .0 .2, cs .0 .3, rw (p .1) (p .0)) (omega arith) refl)
+        (codes-fine (suc o) b k (cs .1) n (omega arith))
     codes-fine o (barrier b) k cs s r i h =
         let p = here o (barrier b) b k refl (λ _. refl) s in
         let n = sits-next o (barrier b) b k refl (λ _. refl) s in
-        from-next o b k i h (
-          fine-by o _ (cs .0) (rw (p .1) (p .0)) (omega arith) refl,
-          codes-fine (suc o) b k (cs .1) n (omega arith),
-        )
+        from-next Fine o b i h
+        (fine-by o _ (cs .0) (rw (p .1) (p .0)) (omega arith) refl)
+        (codes-fine (suc o) b k (cs .1) n (omega arith))
     codes-fine o (when e c d b) k cs s r i h =
         let n = when-lines e c d b in
         let first = sits-first o e c d b k s in
         let behind = sits-behind o e c d b k s in
         let join : suc o + suc (lines-of c) + else-lines d ≤ lines = omega arith in
         let to = sits-here _ b k behind in
-        from-if o e c d b i h
+        from-if Fine o e c d b i h
         (fine-by o _ (cs .0 .2)
         (e, cs .0 .1, record { first = c; second = d; behind = followed b k; is = sits-here o (when e c d b) k s; yes = sits-here _ c _ first; no = second-here o e c d b k s; join = to })
-        (omega arith, omega arith, join) tt)
+        (omega arith, omega arith, join) (refl, omega arith, omega arith))
         (codes-fine (suc o) c (followed b k) (cs .1) first (omega arith))
         (fine-by _ _ (cs .2) (sits-last (suc o) c (followed b k) first ∙ sym to) join (inl (omega arith)))
         (λ j g. elim (cases-bool (ended d)) [
@@ -218,10 +157,10 @@ module _ (at : ℕ → Body) where
         let behind = sits-after o e c b k s in
         let join : suc o + suc (lines-of c) ≤ lines = omega arith in
         let to = sits-here _ b k behind in
-        from-while o e c b i h
+        from-while Fine o e c b i h
         (fine-by o _ (cs .0 .2)
         (e, cs .0 .1, record { inner = c; behind = followed b k; is = sits-here o (while e c b) k s; yes = sits-here _ c _ inner; no = to; join = to })
-        (omega arith, join, join) tt)
+        (omega arith, join, join) (refl, omega arith, omega arith))
         (codes-fine (suc o) c (while e c (followed b k)) (cs .1) inner (omega arith))
         (fine-by _ _ (cs .2) (sits-last (suc o) c (while e c (followed b k)) inner ∙ sym (sits-here o (while e c b) k s)) (omega arith) (inr (ap is-loop (cs .0 .2))))
         (codes-fine (suc o + suc (lines-of c)) b k (cs .3) behind (omega arith))

@@ -26,10 +26,12 @@ use Rattle.code.specs.declared.compile.Place.{Place}
 use Rattle.code.specs.Lines.{lines-of, else-lines, left-at}
 use Rattle.code.specs.Words.{step-at, there}
 use Rattle.code.specs.Code.{Codes, Coded, Code-right}
+use Rattle.code.specs.Joins.{Nested, Joins-right}
 use Rattle.code.specs.Scan.{in-line, Scan}
 use Rattle.code.specs.Make.{entry-at, Kept, Lies, Halts, no-more, Names, Next-line, Given, Done, Moved, Lines-made, Skipped, Compiled, stopping}
 use Rattle.code.proofs.Left.{else-none, else-some, else-most, no-second, when-lines}
 use Rattle.code.proofs.Rights.{code-right}
+use Rattle.code.proofs.Nests.{joins-right}
 use Rattle.code.proofs.Texts.{each-append, each-weaken}
 use Rattle.code.proofs.Exprs.{digit-word, word-in-line}
 use Rattle.code.proofs.Tells.{next-is}
@@ -244,7 +246,7 @@ last-end words lines = rw (le-ltb lines lines (omega arith))
 
 pub compiled : (ns : List (List ℕ)) (p : Program) (text words after : List ℕ) (room : ℕ) (q r : Place) → Taken ns p text → q .entry ≡ 0 → Given ns text (q .at) (p .body) [] (q .entry) 16 room
     → Lines-made text words after 16 room q r → Compiled ns p text words after (r .entry)
-unfolding Code-right
+unfolding Code-right Joins-right
 compiled ns p text words after room q r t z g made =
     let done = made .done ns (p .body) [] g in
     let n : r .entry ≡ lines-of (p .body) = omega (arith, done .count) in
@@ -258,6 +260,7 @@ compiled ns p text words after room q r t z g made =
       coded =
           subst (λ (l : ℕ). Coded (Named ns) text (length ns) l (left-at (p .body)) (step-at after (r .entry))) (sym n)
           (code-right ns text (step-at after (r .entry)) (p .body) s (ap (step-at after (r .entry)) (sym n) ∙ last-end after (r .entry)));
+      nested = subst (λ (l : ℕ). Nested (step-at after (r .entry)) l) (sym n) (joins-right ns text (step-at after (r .entry)) (p .body) s);
       behind = λ k h. made .moved .kept .same k (inr h);
     }
 

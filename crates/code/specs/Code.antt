@@ -75,12 +75,13 @@ is-jump (Jump i) = true
 is-jump (Barrier i) = false
 is-jump End = false
 
--- A jump at entry i goes forward, or back to a while; a barrier at entry i goes on at the next.
+-- Where the step at entry i goes: to the next entry; from an if or a while to the next or behind it, and the lanes join no earlier;
+-- a jump goes forward, or back to a while.
 abbrev pub Onward : (ℕ → Step) → ℕ → Step → Type 0
-Onward code i (Put k x j) = Unit {0}
-Onward code i (Read f k x j) = Unit {0}
-Onward code i (Write f x y j) = Unit {0}
-Onward code i (Branch x y n j f) = Unit {0}
+Onward code i (Put k x j) = j ≡ suc i
+Onward code i (Read f k x j) = j ≡ suc i
+Onward code i (Write f x y j) = j ≡ suc i
+Onward code i (Branch x y n j f) = (y ≡ suc i) × (y < n) × (n ≤ j)
 Onward code i (Jump j) = (i < j) ⊎ (is-loop (code j) ≡ true)
 Onward code i (Barrier j) = j ≡ suc i
 Onward code i End = Unit {0}

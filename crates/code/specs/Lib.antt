@@ -3,3 +3,4 @@ pub mod Words
 pub mod Code
 pub mod Scan
 pub mod Make
+pub mod Joins

@@ -18,6 +18,7 @@ use Rattle.code.specs.declared.scan.Line.the-variants.{Heading, Put, Read, Wri
 use Rattle.code.specs.declared.compile.Place.{Place}
 use Rattle.code.specs.Lines.{lines-of, else-lines, left-at}
 use Rattle.code.specs.Words.{step-at}
+use Rattle.code.specs.Joins.{Nested}
 use Rattle.code.specs.Scan.{in-line}
 use Rattle.code.specs.Code.{Codes, Coded}
 
@@ -176,10 +177,12 @@ pub record Skipped (text : List ℕ) (p r : Place) : Type 0 where
   pub cells-line : (u z : List ℕ) → drop (p .at) text ≡ codes "cells" ++ (u ++ (10 ∷ z)) → Apart (u ++ (10 ∷ z)) → each-byte in-line u ≡ true → drop (r .at) text ≡ z
   pub stays : (ns : List (List ℕ)) (b : Body) (z : List ℕ) → Names ns text → Lies ns text (p .at) b z → Halts z → r ≡ p
 
--- The text was made into r entries, which stand for the program's body; so they do at each entry what is left there. Words behind them are as they were.
+-- The text was made into r entries, which stand for the program's body; so they do at each entry what is left there,
+-- and what stands in an if or a while stays in it until its join. Words behind them are as they were.
 pub record Compiled (ns : List (List ℕ)) (p : Program) (text words after : List ℕ) (r : ℕ) : Type 0 where
   pub lines : r ≡ lines-of (p .body)
   pub few : r ≤ lines-in text
   pub stands : Codes (Named ns) text (length ns) (step-at after r) 0 (p .body)
   pub coded : Coded (Named ns) text (length ns) r (left-at (p .body)) (step-at after r)
+  pub nested : Nested (step-at after r) r
   pub behind : (k : ℕ) → r * 16 ≤ k → getD after k 0 ≡ getD words k 0

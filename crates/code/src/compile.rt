@@ -237,7 +237,8 @@ fn skip_heading(text: &[u8], p: Place) -> Place
 
 // A text that was taken is made into steps: how many entries there are. Each has 16 words, and there are no more of them than lines.
 pub fn compile(text: &[u8], steps: &mut [u32]) -> usize
-    ensures { λ r. ⌜ ((ns : List (List ℕ)) (p : Program) → Taken ns p (now (text .entry)) → lines-in (now (text .entry)) * 16 ≤ length (now (steps .entry)) → Compiled ns p (now (text .entry)) (now (steps .entry)) (now (steps .exit)) r) ⌝ }
+    ensures few { λ r. ⌜ r ≤ length (now (steps .entry)) / 16 ⌝ }
+    ensures made { λ r. ⌜ ((ns : List (List ℕ)) (p : Program) → Taken ns p (now (text .entry)) → lines-in (now (text .entry)) * 16 ≤ length (now (steps .entry)) → Compiled ns p (now (text .entry)) (now (steps .entry)) (now (steps .exit)) r) ⌝ }
 {
     if text.len() >= 0x8000_0000 {
         return 0;

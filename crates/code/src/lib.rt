@@ -18,3 +18,12 @@ pub fn code_right_stands() -> u8
 {
     0
 }
+
+ghost use Rattle.code.specs.Joins.{Joins-right};
+
+// The theorem that what stands in an if or a while stays in it until its lanes join.
+pub fn joins_right_stands() -> u8
+    ensures { λ _. ⌜ Joins-right ⌝ }
+{
+    0
+}

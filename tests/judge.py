@@ -2,12 +2,18 @@
 
 import fields
 import grid as grids
+import rows
+
+
+def taken(grid, turns):
+    """The turns of an order: given ones and then one lane after the other, or rows in lockstep."""
+    return rows.order(grid) if turns == 'rows' else grids.order(grid, turns)
 
 
 def tell(program, field, turns=()):
     """What is told first in this order, as printed, and the grid where it stopped."""
     grid = grids.Grid(program, field)
-    for turn in grids.order(grid, turns):
+    for turn in taken(grid, turns):
         if turn[0] == 'of' and grid.steps == field.steps:
             return 'too long\n', grid
         grid.do(turn)
@@ -27,7 +33,7 @@ def kind(told):
 def to_the_end(program, field, turns, most):
     """The grid where nothing can go on, races and wrong lanes or not, or after so many steps; and whether it came there."""
     grid = grids.Grid(program, field)
-    for turn in grids.order(grid, turns):
+    for turn in taken(grid, turns):
         if turn[0] == 'of' and grid.steps == most:
             return grid, False
         grid.do(turn)

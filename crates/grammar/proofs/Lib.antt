@@ -14,3 +14,6 @@ pub mod Sound
 pub mod Soundexpr
 pub mod Soundline
 pub mod Nameds
+pub mod Goeson
+pub mod Goesonexpr
+pub mod Goesonline

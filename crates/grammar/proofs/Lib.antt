@@ -17,3 +17,4 @@ pub mod Nameds
 pub mod Goeson
 pub mod Goesonexpr
 pub mod Goesonline
+pub mod Goesonright

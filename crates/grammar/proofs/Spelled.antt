@@ -96,7 +96,7 @@ module _ (find : List ℕ → Option ℕ) (text : List ℕ) where
   lifted zero u s w r i z e a = rw (byte-of text i u z s e, not-open (getD u 0 0) w) (r i z e a)
   lifted (suc n) u s w r i z e a = rw (byte-of text i u z s e, not-open (getD u 0 0) w) (r i z e a)
 
-  operator-done : (i op : ℕ) (z : List ℕ) → is-operator op ≡ true → drop i text ≡ 32 ∷ op ∷ 32 ∷ z → operator-at text i ≡ Ok (i + 3)
+  pub operator-done : (i op : ℕ) (z : List ℕ) → is-operator op ≡ true → drop i text ≡ 32 ∷ op ∷ 32 ∷ z → operator-at text i ≡ Ok (i + 3)
   unfolding operator-at each-byte
   operator-done i op z o e =
       let e1 : drop (i + 1) text ≡ op ∷ 32 ∷ z = past-byte text i 32 _ e in

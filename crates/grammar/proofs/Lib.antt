@@ -18,3 +18,4 @@ pub mod Goeson
 pub mod Goesonexpr
 pub mod Goesonline
 pub mod Goesonright
+pub mod Goesonlines

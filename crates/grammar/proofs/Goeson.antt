@@ -26,12 +26,14 @@ use Rattle.grammar.specs.declared.tokens.Word.the-variants as word
 use Rattle.grammar.proofs.Runs.{run-step, run-stop, run-nil}
 use Rattle.grammar.proofs.Sound.{not-err, same-ok}
 
--- the same bytes up to byte p, behind the texts' ends too
-abbrev pub Agree : ℕ → List ℕ → List ℕ → Type 0
-Agree p s t = (k : ℕ) → k ≤ p → getD s k 0 ≡ getD t k 0
+-- both have a byte p, and the same bytes up to it
+pub record Agree (p : ℕ) (s t : List ℕ) : Type 0 where
+  pub bytes : (k : ℕ) → k ≤ p → getD s k 0 ≡ getD t k 0
+  pub first : p < length s
+  pub second : p < length t
 
 pub agree-less : (p q : ℕ) (s t : List ℕ) → q ≤ p → Agree p s t → Agree q s t
-agree-less p q s t h a k l = a k (omega arith)
+agree-less p q s t h a = record { bytes = λ k l. a .bytes k (omega arith); first = omega (arith, a .first); second = omega (arith, a .second) }
 
 -- runs of the same bytes
 abbrev Same-run : (ℕ → Bool) → List ℕ → List ℕ → Type 0
@@ -70,7 +72,7 @@ run-least f z s t m h a =
       | inr l ↦ let q = run-same f z t s (λ k n. sym (a k (omega arith))) in absurd (omega (arith, q .0)) ]
 
 pub agree-drop : (p i r : ℕ) (s t : List ℕ) → i + r ≤ p → Agree p s t → (k : ℕ) → k ≤ r → getD (drop i s) k 0 ≡ getD (drop i t) k 0
-agree-drop p i r s t h a k l = getD-drop i s k 0 ∙ a (i + k) (omega arith) ∙ sym (getD-drop i t k 0)
+agree-drop p i r s t h a k l = getD-drop i s k 0 ∙ a .bytes (i + k) (omega arith) ∙ sym (getD-drop i t k 0)
 
 module _ (text t : List ℕ) where
   pub run-at : (f : ℕ → Bool) → f 0 ≡ false → (i p : ℕ) → i + run-of f (drop i text) ≤ p → Agree p text t → Same-run f (drop i text) (drop i t)

@@ -36,7 +36,7 @@ module _ (text t : List ℕ) where
   bytes-same [] i = same-end text t itself i i (omega arith)
   bytes-same (b ∷ w) i =
       same-cond text t itself i _ _ (bytes-at text w (i + 1)) (Err (Shape i)) (bytes-at t w (i + 1)) (Err (Shape i))
-        (λ a. ap (λ m. eqb m b && not (eqb b 0)) (a i (omega arith)))
+        (λ a. ap (λ m. eqb m b && not (eqb b 0)) (a .bytes i (omega arith)))
         (same-from text t itself i (i + 1) _ _ (omega arith) (bytes-same w (i + 1)))
         (same-shape text t itself i i (omega arith))
 
@@ -89,7 +89,7 @@ module _ (text t : List ℕ) where
     pub word-same : (i : ℕ) → Same-read text t token-end i (word-at find text i) (word-at find t i)
     unfolding word-at
     word-same i =
-        same-cond text t token-end i _ _ (long-or text i) (Err (Shape i)) (long-or t i) (Err (Shape i)) (λ a. ap letter (a i (omega arith))) (long-read i) (same-shape text t token-end i i (omega arith))
+        same-cond text t token-end i _ _ (long-or text i) (Err (Shape i)) (long-or t i) (Err (Shape i)) (λ a. ap letter (a .bytes i (omega arith))) (long-read i) (same-shape text t token-end i i (omega arith))
 
     -- numbers
     abbrev number-of : List ℕ → ℕ → Result ℕ Refusal
@@ -117,23 +117,23 @@ module _ (text t : List ℕ) where
     pub atom-same : (i : ℕ) → Same-read text t itself i (atom-at find text i) (atom-at find t i)
     unfolding atom-at
     atom-same i =
-        same-cond text t itself i _ _ (number-of text i) _ (number-of t i) _ (λ a. ap digit (a i (omega arith))) (number-read i)
+        same-cond text t itself i _ _ (number-of text i) _ (number-of t i) _ (λ a. ap digit (a .bytes i (omega arith))) (number-read i)
           (same-then text t token-end itself i (word-at find text i) (word-at find t i) _ _ (word-same i) (λ x. atom-word (x .word) (x .end)))
 
     pub operator-same : (i : ℕ) → Same-read text t itself i (operator-at text i) (operator-at t i)
     unfolding operator-at
     operator-same i =
         same-then text t itself itself i (bytes-at text (32 ∷ []) i) (bytes-at t (32 ∷ []) i) _ _ (bytes-same (32 ∷ []) i)
-          (λ j. same-cond text t itself j _ _ (bytes-at text (32 ∷ []) (j + 1)) (Err (Shape j)) (bytes-at t (32 ∷ []) (j + 1)) (Err (Shape j)) (λ a. ap is-operator (a j (omega arith)))
+          (λ j. same-cond text t itself j _ _ (bytes-at text (32 ∷ []) (j + 1)) (Err (Shape j)) (bytes-at t (32 ∷ []) (j + 1)) (Err (Shape j)) (λ a. ap is-operator (a .bytes j (omega arith)))
             (same-from text t itself j (j + 1) _ _ (omega arith) (bytes-same (32 ∷ []) (j + 1))) (same-shape text t itself j j (omega arith)))
 
     pub expr-same : (n i : ℕ) → Same-read text t itself i (expr-at find text n i) (expr-at find t n i)
     unfolding expr-at
     expr-same zero i =
-        same-cond text t itself i _ _ (Err (Long i)) (atom-at find text i) (Err (Long i)) (atom-at find t i) (λ a. ap (λ m. eqb m 40) (a i (omega arith)))
+        same-cond text t itself i _ _ (Err (Long i)) (atom-at find text i) (Err (Long i)) (atom-at find t i) (λ a. ap (λ m. eqb m 40) (a .bytes i (omega arith)))
           (same-other text t itself i (Long i) _ (λ q e. let z : _≡_ {A = ℕ} 0 1 = cc in omega arith)) (atom-same i)
     expr-same (suc n) i =
-        same-cond text t itself i _ _ _ (atom-at find text i) _ (atom-at find t i) (λ a. ap (λ m. eqb m 40) (a i (omega arith)))
+        same-cond text t itself i _ _ _ (atom-at find text i) _ (atom-at find t i) (λ a. ap (λ m. eqb m 40) (a .bytes i (omega arith)))
           (same-from text t itself i (i + 1) _ _ (omega arith) (same-then text t itself itself (i + 1) (expr-at find text n (i + 1)) (expr-at find t n (i + 1)) _ _ (expr-same n (i + 1))
             (λ j. same-then text t itself itself j (operator-at text j) (operator-at t j) _ _ (operator-same j)
               (λ k. same-then text t itself itself k (expr-at find text n k) (expr-at find t n k) _ _ (expr-same n k) (λ l. bytes-same (41 ∷ []) l)))))

@@ -74,8 +74,9 @@ no-key-here t j h = no-key (word-part t j) (inr (first-of (run-of word-byte (dro
 pub no-key-long : (t : List ℕ) (j : ℕ) → 9 ≤ run-of word-byte (drop j t) → key-at t j ≡ None
 no-key-long t j h = no-key (word-part t j) (inl (omega (arith, run-length word-byte t j)))
 
+-- the byte 10 that ends a line
 abbrev pub next-of : Lined → ℕ
-next-of l = l .next
+next-of l = l .next - 1
 
 -- an expression ends, or is refused, at q
 abbrev pub Ends : Result ℕ Refusal → ℕ → Type 0
@@ -141,23 +142,28 @@ module _ (find : List ℕ → Option ℕ) (text : List ℕ) where
   kind-same t j q (inr (inl h)) a e =
       let n : 8 < run-of word-byte (drop j t) = run-least word-byte refl (drop j text) (drop j t) 8 (omega (arith, h .0)) (agree-drop q j 8 text t (h .1) a) in
       ap cell-kind (no-key-long t j (omega arith))
-  kind-same t j q (inr (inr h)) a e = ap cell-kind (no-key-here t j (ap letter (sym (a j (h .1))) ∙ h .0))
+  kind-same t j q (inr (inr h)) a e = ap cell-kind (no-key-here t j (ap letter (sym (a .bytes j (h .1))) ∙ h .0))
 
 module _ (find : List ℕ → Option ℕ) (text t : List ℕ) where
+  closed-is : (s : List ℕ) (l : Line) (i : ℕ) → closed s l i ≡ cond (eqb (getD s i 0) 10) (Ok (record { line = l; next = i + 1 })) (Err (Shape i))
+  unfolding closed bytes-at
+  closed-is s l i = elim (cases-bool (eqb (getD s i 0) 10)) [ inl h ↦ rw h refl | inr h ↦ rw h refl ]
+
   pub closed-same : (l : Line) (i : ℕ) → Same-read text t next-of i (closed text l i) (closed t l i)
-  unfolding closed
   closed-same l i =
-      same-then text t itself next-of i (bytes-at text (codes "\n") i) (bytes-at t (codes "\n") i) _ _ (bytes-same text t (codes "\n") i) (λ n. same-end text t next-of n (record { line = l; next = n }) (omega arith))
+      rw (closed-is text l i, closed-is t l i)
+        (same-cond text t next-of i _ _ (Ok (record { line = l; next = i + 1 })) (Err (Shape i)) (Ok (record { line = l; next = i + 1 })) (Err (Shape i)) (λ a. ap (λ m. eqb m 10) (a .bytes i (omega arith)))
+          (same-end text t next-of i (record { line = l; next = i + 1 }) (omega arith)) (same-shape text t next-of i i (omega arith)))
 
   pub with-same : (l : Line) (i : ℕ) → Same-read text t next-of i (with-expr find text l i) (with-expr find t l i)
   unfolding with-expr
   with-same l i = same-then text t itself next-of i (expr-at find text 1024 i) (expr-at find t 1024 i) _ _ (expr-same text t find 1024 i) (λ j. closed-same l j)
 
-  with-ok : (l : Line) (j : ℕ) (x : Lined) → with-expr find text l j ≡ Ok x → Reach find text j (x .next)
+  with-ok : (l : Line) (j : ℕ) (x : Lined) → with-expr find text l j ≡ Ok x → Reach find text j (next-of x)
   unfolding with-expr
   with-ok l j x e =
       let p = then-parts (expr-at find text 1024 j) _ x e in
-      reach-more find text j (p .0) (x .next) (closed-same l (p .0) .ok x (p .2) .0) (reach find text 1024 j (p .0) (inl (p .1)))
+      reach-more find text j (p .0) (next-of x) (closed-same l (p .0) .ok x (p .2) .0) (reach find text 1024 j (p .0) (inl (p .1)))
 
   with-err : (l : Line) (j q : ℕ) → with-expr find text l j ≡ Err (Shape q) → Reach find text j q
   unfolding with-expr
@@ -189,13 +195,13 @@ module _ (find : List ℕ → Option ℕ) (text t : List ℕ) where
   by-same : (k j : ℕ) (c : Option Bool) → cell-kind (key-at text j) ≡ c → Same-read text t next-of j (assign-by find text k j c) (assign-by find t k j (cell-kind (key-at t j)))
   by-same k j None h =
       record {
-        ok = λ x e. let q = with-same (line.Put k j) j .ok x e in (q .0, λ a. rw (kind-same find text t j (x .next) (with-ok (line.Put k j) j x e) a h) (q .1 a));
+        ok = λ x e. let q = with-same (line.Put k j) j .ok x e in (q .0, λ a. rw (kind-same find text t j (next-of x) (with-ok (line.Put k j) j x e) a h) (q .1 a));
         err = λ m e. let q = with-same (line.Put k j) j .err m e in (q .0, λ a. rw (kind-same find text t j m (with-err (line.Put k j) j m e) a h) (q .1 a)) }
   by-same k j (Some f) h =
       let n : ℕ = j + run-of word-byte (drop j text) in
       record {
-        ok = λ x e. let q = kinded-same f k n .ok x (sym (read-is f k j) ∙ e) in let l : j ≤ x .next = omega (arith, q .0) in
-                    (l, λ a. read-same f k j h (agree-less (x .next) n text t (q .0) a) ∙ q .1 a);
+        ok = λ x e. let q = kinded-same f k n .ok x (sym (read-is f k j) ∙ e) in let l : j ≤ next-of x = omega (arith, q .0) in
+                    (l, λ a. read-same f k j h (agree-less (next-of x) n text t (q .0) a) ∙ q .1 a);
         err = λ m e. let q = kinded-same f k n .err m (sym (read-is f k j) ∙ e) in let l : j ≤ m = omega (arith, q .0) in
                     (l, λ a. read-same f k j h (agree-less m n text t (q .0) a) ∙ q .1 a) }
 

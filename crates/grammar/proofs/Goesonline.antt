@@ -90,7 +90,7 @@ module _ (find : List ℕ → Option ℕ) (text : List ℕ) where
   abbrev pub Reach : ℕ → ℕ → Type 0
   Reach j q = (j + run-of word-byte (drop j text) ≤ q) ⊎ (((9 ≤ run-of word-byte (drop j text)) × (j + 8 ≤ q)) ⊎ ((letter (getD text j 0) ≡ false) × (j ≤ q)))
 
-  word-refused : (j q : ℕ) → letter (getD text j 0) ≡ true → word-at find text j ≡ Err (Shape q) → (9 ≤ run-of word-byte (drop j text)) × (j + 8 ≡ q)
+  pub word-refused : (j q : ℕ) → letter (getD text j 0) ≡ true → word-at find text j ≡ Err (Shape q) → (9 ≤ run-of word-byte (drop j text)) × (j + 8 ≡ q)
   unfolding word-at
   word-refused j q l e =
       elim (cond-cases (letter (getD text j 0)) _ _ (Err (Shape q)) e)

@@ -19,3 +19,4 @@ pub mod Goesonexpr
 pub mod Goesonline
 pub mod Goesonright
 pub mod Goesonlines
+pub mod Goesonfront

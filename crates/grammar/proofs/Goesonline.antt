@@ -145,7 +145,7 @@ module _ (find : List ℕ → Option ℕ) (text : List ℕ) where
   kind-same t j q (inr (inr h)) a e = ap cell-kind (no-key-here t j (ap letter (sym (a .bytes j (h .1))) ∙ h .0))
 
 module _ (find : List ℕ → Option ℕ) (text t : List ℕ) where
-  closed-is : (s : List ℕ) (l : Line) (i : ℕ) → closed s l i ≡ cond (eqb (getD s i 0) 10) (Ok (record { line = l; next = i + 1 })) (Err (Shape i))
+  pub closed-is : (s : List ℕ) (l : Line) (i : ℕ) → closed s l i ≡ cond (eqb (getD s i 0) 10) (Ok (record { line = l; next = i + 1 })) (Err (Shape i))
   unfolding closed bytes-at
   closed-is s l i = elim (cases-bool (eqb (getD s i 0) 10)) [ inl h ↦ rw h refl | inr h ↦ rw h refl ]
 

@@ -20,3 +20,4 @@ pub mod Goesonline
 pub mod Goesonright
 pub mod Goesonlines
 pub mod Goesonfront
+pub mod Goesonbegun

@@ -34,7 +34,7 @@ use Rattle.grammar.proofs.Sound.{cond-cases, then-parts, not-err, same-ok, byt
 use Rattle.grammar.proofs.Soundexpr.{Read-expr, expr-sound}
 
 -- only the two words have a kind
-kind-cell : (k : Option Keyword) (f : Bool) → cell-kind k ≡ Some f → ((k ≡ Some kw.Cell) × (f ≡ false)) ⊎ ((k ≡ Some kw.Field) × (f ≡ true))
+pub kind-cell : (k : Option Keyword) (f : Bool) → cell-kind k ≡ Some f → ((k ≡ Some kw.Cell) × (f ≡ false)) ⊎ ((k ≡ Some kw.Field) × (f ≡ true))
 kind-cell None f e = let z : _≡_ {A = ℕ} 0 1 = cc in absurd (omega arith)
 kind-cell (Some kw.Own) f e = let z : _≡_ {A = ℕ} 0 1 = cc in absurd (omega arith)
 kind-cell (Some kw.Cells) f e = let z : _≡_ {A = ℕ} 0 1 = cc in absurd (omega arith)

@@ -43,7 +43,7 @@ module _ (z : Sizes) (g start mask : ℕ) (hg : g < z .groups) (hs : start < z .
   pub outside : mask < 4294967296 → z .lanes - start < 32 → Row-in z g start mask → mask / 2 ^ (z .lanes - start) ≡ 0
   outside hm hw r =
       none-above mask (32 - (z .lanes - start)) (z .lanes - start) (omega arith) hm
-        (λ i a b. by i a (r .there i b) (cases-bool (on mask i)))
+      (λ i a b. by i a (r .there i b) (cases-bool (on mask i)))
     where
       by : (i : ℕ) → z .lanes - start ≤ i → (on mask i ≡ true → start + i < z .lanes) → (on mask i ≡ true) ⊎ (on mask i ≡ false) → on mask i ≡ false
       by i a f (inl o) = absurd (let p = f o in omega arith)

@@ -46,8 +46,15 @@ unfolding turns steps
 idle z at lines ls cs ks g start mask none =
     let e = no-turns g start mask 32 (omega arith) none in
     record {
-      many = 32; ends = refl; lined = λ h. h; rest = λ _ _ _ _ _ _. refl; words = λ _ _ _ _ _ _. refl;
-      grid = rw e refl; steps = rw e refl; after = λ d ts s. rw (e, append-nil ts) s }
+      many = 32;
+      ends = refl;
+      lined = λ h. h;
+      rest = λ _ _ _ _ _ _. refl;
+      words = λ _ _ _ _ _ _. refl;
+      grid = rw e refl;
+      steps = rw e refl;
+      after = λ d ts s. rw (e, append-nil ts) s;
+    }
 
 -- what the lanes can do, and where
 module _ (z : Sizes) (at : ℕ → Body) (words : List ℕ) (lines : ℕ) (ls cs : List ℕ) (g start mask entry : ℕ) (m : Masked z at words lines ls cs g start mask entry) where
@@ -77,8 +84,8 @@ module _ (z : Sizes) (at : ℕ → Body) (words : List ℕ) (lines : ℕ) (ls cs
     pub none-planned : plan-of (z .owns) (step-at words lines entry) ≡ None → (i : ℕ) → i < 32 → on mask i ≡ false
     none-planned e =
         none-if (λ i h o. both-ways (stepping (at entry))
-          (no-plan (Named ns) text at (z .owns) lines (step-at words lines entry) (at entry) e (subst (λ (n : ℕ). code.Goes n lines (step-at words lines entry)) (l .owned) (l .coded .goes entry (m .within))) (m .no-jump) (l .coded .does entry (m .within)))
-          (steps-on i h o))
+        (no-plan (Named ns) text at (z .owns) lines (step-at words lines entry) (at entry) e (subst (λ (n : ℕ). code.Goes n lines (step-at words lines entry)) (l .owned) (l .coded .goes entry (m .within))) (m .no-jump) (l .coded .does entry (m .within)))
+        (steps-on i h o))
 
     second-of : (xs ys : List ℕ) (i : ℕ) → i < 32 → start + i < z .lanes → (t : Todo) (y : ℕ) → Second-worked z ls g start text t y ys →
         Second (Named ns) text at (z .owns) (value (own-of z ls g (start + i)) (start + i) g (z .lanes)) (getD xs i 0) (getD ys i 0) y t
@@ -94,8 +101,8 @@ module _ (z : Sizes) (at : ℕ → Body) (words : List ℕ) (lines : ℕ) (ls cs
     ready-row p xs ys e w u i h o =
         let hl = m .there i h o in
         subst (λ (n : ℕ). Next-is at (value (own-of z ls g (start + i)) (start + i) g (z .lanes)) (p .todo) (getD xs i 0) (getD ys i 0) (at n)) (sym (m .stands i h o))
-          (next-is (Named ns) text at (z .owns) (value (own-of z ls g (start + i)) (start + i) g (z .lanes)) (getD xs i 0) (getD ys i 0) (step-at words lines entry) p (at entry) e (l .coded .does entry (m .within))
-            (λ f st. w ns (l .names) (l .distinct) (le-of-eq (l .owned)) f st i h hl) (second-of xs ys i h hl (p .todo) (p .second) u))
+        (next-is (Named ns) text at (z .owns) (value (own-of z ls g (start + i)) (start + i) g (z .lanes)) (getD xs i 0) (getD ys i 0) (step-at words lines entry) p (at entry) e (l .coded .does entry (m .within))
+        (λ f st. w ns (l .names) (l .distinct) (le-of-eq (l .owned)) f st i h hl) (second-of xs ys i h hl (p .todo) (p .second) u))
 
     stops : at lines ≡ end
     stops = last-end (Named ns) text at words lines (at lines) (l .coded .does lines (omega arith))
@@ -107,9 +114,15 @@ module _ (z : Sizes) (at : ℕ → Body) (words : List ℕ) (lines : ℕ) (ls cs
         let ready = ready-row p xs ys e w u in
         let goes = plan-goes (z .owns) lines (step-at words lines entry) p e (subst (λ (n : ℕ). code.Goes n lines (step-at words lines entry)) (l .owned) (l .coded .goes entry (m .within))) in
         record {
-          many = o .many; ends = o .ends; lined = λ h. o .did .lined (suc lines) (omega arith) goes h;
-          rest = o .did .rest; words = o .did .words; grid = o .did .grid at stops ready; steps = o .did .steps at stops ready;
-          after = λ d ts s. o .after at d ts stops ready s }
+          many = o .many;
+          ends = o .ends;
+          lined = λ h. o .did .lined (suc lines) (omega arith) goes h;
+          rest = o .did .rest;
+          words = o .did .words;
+          grid = o .did .grid at stops ready;
+          steps = o .did .steps at stops ready;
+          after = λ d ts s. o .after at d ts stops ready s;
+        }
 
 -- what that is for the machine's row of turns
 pub all-fine : (g start mask many : ℕ) (r : Outcome) → Ends g start mask many r → r ≡ Fine → many ≡ 32

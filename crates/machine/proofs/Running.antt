@@ -32,9 +32,10 @@ module _ (z : Sizes) (words : List ℕ) (lines g start mask line entry : ℕ) (l
       record {
         rest = λ _ _ _ _ _ _. refl;
         there = λ ns text owns at coded h stands.
-          let s = jumps ns text owns at h coded in
-          let e = same why (s .within) in
-          record { here = λ j hj o. stands j hj o ∙ sym e; within = s .within; no-jump = s .stays; lined = λ l. l; grid = λ _. refl } }
+            let s = jumps ns text owns at h coded in
+            let e = same why (s .within) in
+            record { here = λ j hj o. stands j hj o ∙ sym e; within = s .within; no-jump = s .stays; lined = λ l. l; grid = λ _. refl };
+      }
     where
       same : (entry ≡ line) ⊎ (lines < entry) → entry ≤ lines → entry ≡ line
       same (inl e) h = e
@@ -45,10 +46,16 @@ module _ (z : Sizes) (words : List ℕ) (lines g start mask line entry : ℕ) (l
       record {
         rest = st .rest;
         there = λ ns text owns at coded h stands.
-          let s = jumps ns text owns at h coded in
-          let hw = s .within in
-          record { here = st .here; within = s .within; no-jump = s .stays; lined = st .lined (suc lines) (omega arith);
-            grid = λ cs. st .grid at cs (λ j hj o. s .left ∙ ap at (sym (stands j hj o))) } }
+            let s = jumps ns text owns at h coded in
+            let hw = s .within in
+            record {
+              here = st .here;
+              within = s .within;
+              no-jump = s .stays;
+              lined = st .lined (suc lines) (omega arith);
+              grid = λ cs. st .grid at cs (λ j hj o. s .left ∙ ap at (sym (stands j hj o)));
+            };
+      }
 
 -- the grid is the same, so all that is said of it is
 sofar-same : (z : Sizes) (at : ℕ → Body) (d : Grid) (ts : List Turn) (ls ls′ cs ks : List ℕ) → grid-of z at ls′ cs ≡ grid-of z at ls cs → Sofar z at d ts ls cs ks → Sofar z at d ts ls′ cs ks
@@ -71,19 +78,27 @@ module _ (z : Sizes) (at : ℕ → Body) (words text : List ℕ) (lines : ℕ) (
   masked =
       let a = all-there in
       record {
-        group = c .group; there = c .there; stands = a .here; within = a .within; no-jump = λ j. both-ways _ (a .no-jump) j;
-        can-step = λ i h o. subst (λ (d : Grid). can (z .lanes) d (of g (start + i)) ≡ true) (sym (a .grid cs)) (c .can-step i h o) }
+        group = c .group;
+        there = c .there;
+        stands = a .here;
+        within = a .within;
+        no-jump = λ j. both-ways _ (a .no-jump) j;
+        can-step = λ i h o. subst (λ (d : Grid). can (z .lanes) d (of g (start + i)) ≡ true) (sym (a .grid cs)) (c .can-step i h o);
+      }
 
   pub ran : (ls″ cs″ ks″ : List ℕ) → Line-outcome z at (suc lines) ls′ cs ks ls″ cs″ ks″ g start mask r → Row-ran z at (suc lines) ls cs ks ls″ cs″ ks″ g start mask r
   ran ls″ cs″ ks″ o =
       let a = all-there in
       record {
-        many = o .many; ends = o .ends; lined = o .lined (a .lined lined);
+        many = o .many;
+        ends = o .ends;
+        lined = o .lined (a .lined lined);
         rest = λ g′ s k hs hk ne. o .rest g′ s k hs hk (λ x j e h m. ne x j e (few (o .many) r (o .ends) j h) m) ∙ st .rest g′ s k hs hk (λ x _ j e h m. ne x j e h m);
         words = λ g′ s k h2 hs hk. o .words g′ s k h2 hs hk ∙ st .rest g′ s k (omega arith) hk (λ _ x _ _ _ _. omega arith);
         grid = o .grid ∙ ap (λ (d : Grid). turns (z .lanes) d (row-turns g start mask (o .many))) (a .grid cs);
         steps = subst (λ (d : Grid). steps (z .lanes) d (row-turns g start mask (o .many)) ≡ length (row-turns g start mask (o .many))) (a .grid cs) (o .steps);
-        after = λ d ts s. o .after d ts (sofar-same z at d ts ls ls′ cs ks (a .grid cs) s) }
+        after = λ d ts s. o .after d ts (sofar-same z at d ts ls ls′ cs ks (a .grid cs) s);
+      }
     where
       few : (many : ℕ) (q : Outcome) → Ends g start mask many q → (j : ℕ) → j < many → j < 32
       few many Fine e j h = omega arith

@@ -28,7 +28,9 @@ module _ (z : Sizes) (g start mask line i : ℕ) (ls ls′ : List ℕ) (far : Ro
       record {
         here = λ j h o. by j h o (cases-eq j i);
         rest = λ g′ s l hs hl ne. far .rest g′ s l hs hl (λ a b j x h o. ne a b j x (omega arith) o);
-        lined = far .lined; grid = far .grid }
+        lined = far .lined;
+        grid = far .grid;
+      }
     where
       by : (j : ℕ) → j < i + 1 → on mask j ≡ true → (j ≡ i) ⊎ (j ≡ i → ⊥) → line-at z ls′ g (start + j) ≡ line
       by j h o (inl x) = absurd (both-ways (on mask i) e (subst (λ (n : ℕ). on mask n ≡ true) x o))
@@ -50,7 +52,8 @@ module _ (z : Sizes) (g start mask line i : ℕ) (ls ls′ : List ℕ) (far : Ro
           here = λ j h o. by j h o (cases-eq j i);
           rest = λ g′ s l hs hl ne. slot-else g′ s l hs hl (λ a b x. ne a b i x (omega arith) e) ∙ far .rest g′ s l hs hl (λ a b j x h o. ne a b j x (omega arith) o);
           lined = λ lines h old. st .lined lines h (far .lined lines h old);
-          grid = λ at cs same. st .grid at cs (same i hi e ∙ sym (ap at (still i (omega arith)))) ∙ far .grid at cs same }
+          grid = λ at cs same. st .grid at cs (same i hi e ∙ sym (ap at (still i (omega arith)))) ∙ far .grid at cs same;
+        }
       where
         still : (j : ℕ) → i ≤ j → line-at z ls′ g (start + i) ≡ line-at z ls g (start + i)
         still j h = line-slot z ls ls′ g (start + i) (far .rest g 0 (start + i) (omega arith) (there i hi e) (λ _ _ k x q _. omega arith))

@@ -21,9 +21,11 @@ row-at z g start = record { group = g; lanes = z .lanes; first = start; base = p
 module _ (z : Sizes) (k : Sized z) (ls : List ℕ) (g start width : ℕ) (hg : g < z .groups) (hs : start < z .lanes) (narrow : width ≤ 32) (within : start + width ≤ z .lanes) (fit : room z ≤ length ls) where
   pub row-fits : Row-fits (row-at z g start) ls width
   row-fits =
-      record { narrow = narrow;
+      record {
+        narrow = narrow;
         counted = let p = k .lanes in omega arith;
-        within = λ j h. let p = own-range z g j start width hg h hs within in omega arith }
+        within = λ j h. let p = own-range z g j start width hg h hs within in omega arith;
+      }
 
 pub worked : (z : Sizes) (ls : List ℕ) (g start width : ℕ) (text : List ℕ) (x j : ℕ) (out rest : List ℕ) → length out ≡ width → ((i : ℕ) → i < 32 → start + i < z .lanes → i < width) →
     Evaluated text x ls (row-at z g start) out j → Worked z ls g start text x (out ++ rest)

@@ -65,7 +65,7 @@ pub record Line-outcome (z : Sizes) (at : ℕ → Body) (lines : ℕ) (ls cs ks 
   pub ends : Ends g start mask many r
   pub lined : Lined z lines ls → Lined z lines ls′
   pub rest : (g′ s l : ℕ) → s < slots z → l < z .lanes → (g′ ≡ g → (j : ℕ) → l ≡ start + j → j < many → on mask j ≡ true → ⊥) →
-    slot-of z ls′ g′ s l ≡ slot-of z ls g′ s l
+      slot-of z ls′ g′ s l ≡ slot-of z ls g′ s l
   pub words : (g′ s l : ℕ) → 2 ≤ s → s < 128 → l < z .lanes → slot-of z ls′ g′ s l ≡ slot-of z ls g′ s l
   pub grid : grid-of z at ls′ cs′ ≡ turns (z .lanes) (grid-of z at ls cs) (row-turns g start mask many)
   pub steps : steps (z .lanes) (grid-of z at ls cs) (row-turns g start mask many) ≡ length (row-turns g start mask many)
@@ -76,10 +76,10 @@ pub record Line-outcome (z : Sizes) (at : ℕ → Body) (lines : ℕ) (ls cs ks 
 pub record Row-stood (z : Sizes) (g start mask line i : ℕ) (ls ls′ : List ℕ) : Type 0 where
   pub here : (j : ℕ) → j < i → on mask j ≡ true → line-at z ls′ g (start + j) ≡ line
   pub rest : (g′ s l : ℕ) → s < slots z → l < z .lanes → (g′ ≡ g → s ≡ 0 → (j : ℕ) → l ≡ start + j → j < i → on mask j ≡ true → ⊥) →
-    slot-of z ls′ g′ s l ≡ slot-of z ls g′ s l
+      slot-of z ls′ g′ s l ≡ slot-of z ls g′ s l
   pub lined : (lines : ℕ) → line < lines → Lined z lines ls → Lined z lines ls′
   pub grid : (at : ℕ → Body) (cs : List ℕ) → ((j : ℕ) → j < 32 → on mask j ≡ true → at line ≡ at (line-at z ls g (start + j))) →
-    grid-of z at ls′ cs ≡ grid-of z at ls cs
+      grid-of z at ls′ cs ≡ grid-of z at ls cs
 
 -- The lanes of a mask, which all stood at one line, did the line where its jumps lead: as Line-outcome, but that those of the mask behind
 -- the one that stopped it stand where the jumps lead.
@@ -88,7 +88,7 @@ pub record Row-ran (z : Sizes) (at : ℕ → Body) (lines : ℕ) (ls cs ks ls′
   pub ends : Ends g start mask many r
   pub lined : Lined z lines ls′
   pub rest : (g′ s l : ℕ) → s < slots z → l < z .lanes → (g′ ≡ g → (j : ℕ) → l ≡ start + j → j < 32 → on mask j ≡ true → ⊥) →
-    slot-of z ls′ g′ s l ≡ slot-of z ls g′ s l
+      slot-of z ls′ g′ s l ≡ slot-of z ls g′ s l
   pub words : (g′ s l : ℕ) → 2 ≤ s → s < 128 → l < z .lanes → slot-of z ls′ g′ s l ≡ slot-of z ls g′ s l
   pub grid : grid-of z at ls′ cs′ ≡ turns (z .lanes) (grid-of z at ls cs) (row-turns g start mask many)
   pub steps : steps (z .lanes) (grid-of z at ls cs) (row-turns g start mask many) ≡ length (row-turns g start mask many)
@@ -104,6 +104,6 @@ pub record Row-there (z : Sizes) (at : ℕ → Body) (steps : List ℕ) (lines g
 
 pub record Row-settled (z : Sizes) (steps : List ℕ) (lines g start mask line entry : ℕ) (ls ls′ : List ℕ) : Type 0 where
   pub rest : (g′ s l : ℕ) → s < slots z → l < z .lanes → (g′ ≡ g → s ≡ 0 → (j : ℕ) → l ≡ start + j → j < 32 → on mask j ≡ true → ⊥) →
-    slot-of z ls′ g′ s l ≡ slot-of z ls g′ s l
+      slot-of z ls′ g′ s l ≡ slot-of z ls g′ s l
   pub there : (ns : List (List ℕ)) (text : List ℕ) (owns : ℕ) (at : ℕ → Body) → Coded (Named ns) text owns lines at (step-at steps lines) → line ≤ lines →
-    ((j : ℕ) → j < 32 → on mask j ≡ true → line-at z ls g (start + j) ≡ line) → Row-there z at steps lines g start mask entry ls ls′
+      ((j : ℕ) → j < 32 → on mask j ≡ true → line-at z ls g (start + j) ≡ line) → Row-there z at steps lines g start mask entry ls ls′

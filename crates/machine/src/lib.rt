@@ -2,8 +2,8 @@
 pub mod count;
 pub mod exec;
 pub mod inturn;
-pub mod look;
 pub mod line;
+pub mod look;
 pub mod note;
 pub mod outcome;
 pub mod release;

@@ -40,23 +40,55 @@ fn plan_of(owns: usize, step: Step) -> Option<Plan>
     match step {
         Step::Put { own, expr, next } => {
             if (own as usize) < owns {
-                Some(Plan { todo: Todo::Put { own, next }, first: expr, second: expr })
+                Some(Plan {
+                    todo: Todo::Put { own, next },
+                    first: expr,
+                    second: expr,
+                })
             } else {
                 None
             }
         }
-        Step::Read { field, own, expr, next } => {
+        Step::Read {
+            field,
+            own,
+            expr,
+            next,
+        } => {
             if (own as usize) < owns {
-                Some(Plan { todo: Todo::Read { field, own, next }, first: expr, second: expr })
+                Some(Plan {
+                    todo: Todo::Read { field, own, next },
+                    first: expr,
+                    second: expr,
+                })
             } else {
                 None
             }
         }
-        Step::Write { field, place, value, next } => {
-            Some(Plan { todo: Todo::Write { field, next }, first: place, second: value })
+        Step::Write {
+            field,
+            place,
+            value,
+            next,
+        } => {
+            Some(Plan {
+                todo: Todo::Write { field, next },
+                first: place,
+                second: value,
+            })
         }
-        Step::Branch { expr, yes, no, join: _, looped: _ } => {
-            Some(Plan { todo: Todo::Branch { yes, no }, first: expr, second: expr })
+        Step::Branch {
+            expr,
+            yes,
+            no,
+            join: _,
+            looped: _,
+        } => {
+            Some(Plan {
+                todo: Todo::Branch { yes, no },
+                first: expr,
+                second: expr,
+            })
         }
         _ => None,
     }

@@ -50,7 +50,14 @@ fn stand_all(z: Sizes, lanes: &mut [u32], row: Active, line: u32)
 }
 
 // The lanes of the mask, which all stand at `line`, stand where its jumps lead.
-fn settle_row(steps: &[u32], lines: usize, z: Sizes, lanes: &mut [u32], row: Active, line: usize) -> usize
+fn settle_row(
+    steps: &[u32],
+    lines: usize,
+    z: Sizes,
+    lanes: &mut [u32],
+    row: Active,
+    line: usize,
+) -> usize
     requires sized { ⌜ Sized z ⌝ }
     requires fit { ⌜ room z ≤ length (now lanes) ⌝ }
     requires inside { ⌜ Row-in z (row .group) (row .start) (row .mask) ⌝ }

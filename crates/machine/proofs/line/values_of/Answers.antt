@@ -12,7 +12,7 @@ eval-row-requires c κs =
     let long = c .pre .long in
     let there = c .pre .inside .lane in
     simp (c .own-base .ensures, length-take, sub-zero)
-      (row-fits (c .args .z) (c .pre .sized) (c .args .lanes .now) (c .args .row .group) (c .args .row .start) _ (c .pre .inside .group) (c .pre .inside .lane) (omega arith) (omega arith) (c .pre .fit))
+    (row-fits (c .args .z) (c .pre .sized) (c .args .lanes .now) (c .args .row .group) (c .args .row .start) _ (c .pre .inside .group) (c .pre .inside .lane) (omega arith) (omega arith) (c .pre .fit))
 
 pub returns : need.returns
 returns c =
@@ -22,4 +22,4 @@ returns c =
     let kept = c .eval-row .kept .out in
     let many : length (c .eval-row .last .out) ≡ c .min-width .result = simp (kept, length-take, sub-zero) (omega arith) in
     worked (c .args .z) (c .args .lanes .now) (c .args .row .group) (c .args .row .start) (c .min-width .result) (c .args .text .now) (c .args .at) (c .eval-row .result) (c .eval-row .last .out) _ many
-      (λ i h l. omega arith) (simp (c .own-base .ensures) at (c .eval-row .ensures))
+    (λ i h l. omega arith) (simp (c .own-base .ensures) at (c .eval-row .ensures))

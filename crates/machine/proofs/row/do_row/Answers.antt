@@ -10,9 +10,10 @@ returns c =
     let low = c .lowest-of-low .result in let line = c .line-of-line .result in let entry = c .settle-row-entry .result in let ls′ = c .settle-row-entry .last .lanes in
     record {
       ran = λ ns at l lined can. ran z at words text n ls cs ks ls′ g start mask low line entry (c .do-line .result) ns l lined can (c .if-low-ge32 .left) (c .lowest-of-low .ensures .is (c .if-low-ge32 .left)) (c .line-of-line .ensures) (c .settle-row-entry .ensures)
-        (c .do-line .last .lanes) (c .do-line .last .cells) (c .do-line .last .marks)
-        (c .do-line .ensures .did ns at l (masked z at words text n ls cs ks ls′ g start mask low line entry (c .do-line .result) ns l lined can (c .if-low-ge32 .left) (c .lowest-of-low .ensures .is (c .if-low-ge32 .left)) (c .line-of-line .ensures) (c .settle-row-entry .ensures)));
+          (c .do-line .last .lanes) (c .do-line .last .cells) (c .do-line .last .marks)
+          (c .do-line .ensures .did ns at l (masked z at words text n ls cs ks ls′ g start mask low line entry (c .do-line .result) ns l lined can (c .if-low-ge32 .left) (c .lowest-of-low .ensures .is (c .if-low-ge32 .left)) (c .line-of-line .ensures) (c .settle-row-entry .ensures)));
       done = λ ns at d ts l lined can s. ran-done z at _ ls cs ks (c .do-line .last .lanes) (c .do-line .last .cells) (c .do-line .last .marks) g start mask (c .do-line .result) d ts
-        (ran z at words text n ls cs ks ls′ g start mask low line entry (c .do-line .result) ns l lined can (c .if-low-ge32 .left) (c .lowest-of-low .ensures .is (c .if-low-ge32 .left)) (c .line-of-line .ensures) (c .settle-row-entry .ensures)
-        (c .do-line .last .lanes) (c .do-line .last .cells) (c .do-line .last .marks)
-        (c .do-line .ensures .did ns at l (masked z at words text n ls cs ks ls′ g start mask low line entry (c .do-line .result) ns l lined can (c .if-low-ge32 .left) (c .lowest-of-low .ensures .is (c .if-low-ge32 .left)) (c .line-of-line .ensures) (c .settle-row-entry .ensures)))) s }
+          (ran z at words text n ls cs ks ls′ g start mask low line entry (c .do-line .result) ns l lined can (c .if-low-ge32 .left) (c .lowest-of-low .ensures .is (c .if-low-ge32 .left)) (c .line-of-line .ensures) (c .settle-row-entry .ensures)
+          (c .do-line .last .lanes) (c .do-line .last .cells) (c .do-line .last .marks)
+          (c .do-line .ensures .did ns at l (masked z at words text n ls cs ks ls′ g start mask low line entry (c .do-line .result) ns l lined can (c .if-low-ge32 .left) (c .lowest-of-low .ensures .is (c .if-low-ge32 .left)) (c .line-of-line .ensures) (c .settle-row-entry .ensures)))) s;
+    }

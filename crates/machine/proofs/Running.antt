@@ -9,9 +9,6 @@ use lib.ListN.{length}
 use Rattle.std.proofs.shelf.Tests.{both-ways}
 use Rattle.lanes.specs.Syntax.{Body}
 use Rattle.lanes.specs.Grid.{Grid, Turn, of, can, turns, steps}
-use Rattle.grammar.specs.Spelling.{Named}
-use Rattle.code.specs.Code.{Coded, is-jump, Settled}
-use Rattle.code.specs.Words.{step-at}
 use Rattle.store.specs.declared.Sizes.{Sizes}
 use Rattle.store.specs.Layout.{slots}
 use Rattle.store.specs.Lent.{slot-of, line-at, grid-of, Lined}
@@ -21,41 +18,8 @@ use Rattle.machine.specs.Masks.{Ends}
 use Rattle.machine.specs.Sofar.{Sofar, After}
 use Rattle.machine.specs.Line.{on, row-turns, Loaded, Masked, Line-done}
 use Rattle.machine.specs.Schedule.{Row-can}
-use Rattle.machine.specs.Plans.{Row-in, Row-stood, Row-there, Row-settled, Row-ran, Line-outcome}
+use Rattle.machine.specs.Plans.{Row-in, Row-there, Row-settled, Row-ran, Line-outcome}
 use Rattle.machine.proofs.Lined.{all-fine}
-
--- it need not move, or it did
-module _ (z : Sizes) (words : List ℕ) (lines g start mask line entry : ℕ) (ls : List ℕ)
-    (jumps : (ns : List (List ℕ)) (text : List ℕ) (owns : ℕ) (at : ℕ → Body) → line ≤ lines → Coded (Named ns) text owns lines at (step-at words lines) → Settled at (step-at words lines) lines line entry) where
-  pub settled-same : (entry ≡ line) ⊎ (lines < entry) → Row-settled z words lines g start mask line entry ls ls
-  settled-same why =
-      record {
-        rest = λ _ _ _ _ _ _. refl;
-        there = λ ns text owns at coded h stands.
-            let s = jumps ns text owns at h coded in
-            let e = same why (s .within) in
-            record { here = λ j hj o. stands j hj o ∙ sym e; within = s .within; no-jump = s .stays; lined = λ l. l; grid = λ _. refl };
-      }
-    where
-      same : (entry ≡ line) ⊎ (lines < entry) → entry ≤ lines → entry ≡ line
-      same (inl e) h = e
-      same (inr k) h = absurd (omega arith)
-
-  pub settled-moved : (ls′ : List ℕ) → Row-stood z g start mask entry 32 ls ls′ → Row-settled z words lines g start mask line entry ls ls′
-  settled-moved ls′ st =
-      record {
-        rest = st .rest;
-        there = λ ns text owns at coded h stands.
-            let s = jumps ns text owns at h coded in
-            let hw = s .within in
-            record {
-              here = st .here;
-              within = s .within;
-              no-jump = s .stays;
-              lined = st .lined (suc lines) (omega arith);
-              grid = λ cs. st .grid at cs (λ j hj o. s .left ∙ ap at (sym (stands j hj o)));
-            };
-      }
 
 -- the grid is the same, so all that is said of it is
 sofar-same : (z : Sizes) (at : ℕ → Body) (d : Grid) (ts : List Turn) (ls ls′ cs ks : List ℕ) → grid-of z at ls′ cs ≡ grid-of z at ls cs → Sofar z at d ts ls cs ks → Sofar z at d ts ls′ cs ks

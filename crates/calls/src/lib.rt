@@ -1,0 +1,2 @@
+// The calls that programs make: a text and a field's bytes, and the lent slices.
+mod load;

@@ -70,6 +70,8 @@ wrote ws i a b c d e l s h q =
           let k0 : (j * 16 < i * 16) ⊎ (i * 16 + 16 ≤ j * 16) =
           elim (cases-order j i) [ inl p ↦ absurd (g p) | inr (inl p) ↦ inl (omega arith) | inr (inr p) ↦ inr (omega arith) ] in
           rw (long, others (j * 16) k0, others (j * 16 + 1) (k 1 (omega arith)), others (j * 16 + 2) (k 2 (omega arith)), others (j * 16 + 3) (k 3 (omega arith)), others (j * 16 + 4) (k 4 (omega arith)));
+      lines-kept = λ j g.
+          others (j * 16 + 15) (elim (cases-order j i) [ inl p ↦ absurd (g p) | inr (inl p) ↦ inl (omega arith) | inr (inr p) ↦ inr (omega arith) ]);
       long = long;
       words-kept = others;
     }

@@ -194,7 +194,7 @@ module _ (ns : List (List ℕ)) (text : List ℕ) where
           pub last-room : last .entry < room
           last-room = omega (arith, else-done .1, first-entry, the-inside .count, g .room-for)
 
-          module _ (w3 : List ℕ) (q : Place) (closed : Closed w2 w3 (p .entry) (first .entry) (last .entry) x looped) (aq : After text last q) where
+          module _ (w3 : List ℕ) (q : Place) (closed : Closed w2 w3 p first last x looped) (aq : After text last q) where
             up-last : first .entry ≤ last .entry
             up-last = else-made .up
 
@@ -243,8 +243,8 @@ module _ (ns : List (List ℕ)) (text : List ℕ) where
                   stands = λ after same cr.
                       the-inside .codes-on after (first .entry) (last .entry) fe le
                       (same (p .entry) (omega arith) (omega arith) ∙ closed .branch)
-                      (same (first .entry) (omega arith) (omega arith) ∙ closed .first)
-                      (same (last .entry) (omega arith) (omega arith) ∙ closed .last)
+                      (same (first .entry) (omega arith) (omega arith) ∙ closed .first-jump)
+                      (same (last .entry) (omega arith) (omega arith) ∙ closed .last-jump)
                       (first-codes after same)
                       (second-codes after same)
                       (subst (λ (n : ℕ). Codes (Named ns) text (length ns) (entry-at after) n (the-inside .rest)) qe cr);

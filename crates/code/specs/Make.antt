@@ -17,7 +17,7 @@ use Rattle.code.specs.declared.scan.Line.{Line}
 use Rattle.code.specs.declared.scan.Line.the-variants.{Heading, Put, Read, Write, Wait, Test, Loop, Otherwise, Close, Nothing}
 use Rattle.code.specs.declared.compile.Place.{Place}
 use Rattle.code.specs.Lines.{lines-of, else-lines, left-at}
-use Rattle.code.specs.Words.{step-at}
+use Rattle.code.specs.Words.{step-at, text-line}
 use Rattle.code.specs.Joins.{Nested}
 use Rattle.code.specs.Scan.{in-line}
 use Rattle.code.specs.Code.{Codes, Coded}
@@ -108,6 +108,7 @@ pub record After (text : List ℕ) (p q : Place) : Type 0 where
   pub next : Next-line text (p .at) (q .at)
   pub within : q .at ≤ length text
   pub entry : q .entry ≡ suc (p .entry)
+  pub line : p .line < 4294967295 → q .line ≡ suc (p .line)
 
 -- What holds of the place p that was come to from the place q, whatever the text.
 pub record Moved (text words after : List ℕ) (room : ℕ) (q p : Place) : Type 0 where
@@ -121,9 +122,10 @@ pub record Lines-made (text words after : List ℕ) (fuel room : ℕ) (q p : Pla
   pub moved : Moved text words after room q p
   pub done : (ns : List (List ℕ)) (b : Body) (z : List ℕ) → Given ns text (q .at) b z (q .entry) fuel room → Done ns text after z (q .entry) b p
 
--- One line of a body, with what stands in it.
+-- One line of a body, with what stands in it. Its entry names it.
 pub record Line-made (text words after : List ℕ) (fuel room : ℕ) (q p : Place) : Type 0 where
   pub moved : Moved text words after room q p
+  pub line : text-line after (q .entry) ≡ q .line
   pub further : q .entry < p .entry
   pub part : (ns : List (List ℕ)) (b : Body) (z : List ℕ) → Given ns text (q .at) b z (q .entry) fuel room → Part ns text after z (q .entry) b fuel p
 
@@ -135,6 +137,7 @@ Branches ns text x true b = (e : Expr) × (c : Body) × (rest : Body) × (b ≡ 
 -- Such a line, with what stands in it.
 pub record Branch-made (text words after : List ℕ) (fuel room x : ℕ) (looped : Bool) (q p : Place) : Type 0 where
   pub moved : Moved text words after room q p
+  pub line : text-line after (q .entry) ≡ q .line
   pub further : q .entry < p .entry
   pub part : (ns : List (List ℕ)) (b : Body) (z : List ℕ) → Given ns text (q .at) b z (q .entry) fuel room → Branches ns text x looped b → Part ns text after z (q .entry) b fuel p
 
@@ -161,13 +164,16 @@ pub record Else-made (text words after : List ℕ) (fuel room : ℕ) (q p : Plac
   pub done : (ns : List (List ℕ)) (d : Body) (z : List ℕ) → Else-given ns text (q .at) d z (q .entry) fuel room →
       (drop (p .at) text ≡ codes "end" ++ (10 ∷ z)) × (p .entry ≡ q .entry + else-lines d) × Codes (Named ns) text (length ns) (entry-at after) (suc (q .entry)) d
 
--- The entries of a branch at o were written, with the jumps at entries m and n.
-pub record Closed (words after : List ℕ) (o m n x : ℕ) (looped : Bool) : Type 0 where
-  pub branch : entry-at after o ≡ SBranch x (suc o) (suc m) (suc n) looped
-  pub first : entry-at after m ≡ SJump (cond looped o (suc n))
-  pub last : entry-at after n ≡ SJump (cond looped o (suc n))
-  pub others : (i : ℕ) → (i ≡ o → ⊥) → (i ≡ m → ⊥) → (i ≡ n → ⊥) → entry-at after i ≡ entry-at words i
-  pub kept : Kept words after o (suc n)
+-- The entries of a branch at p were written, with the jumps behind its first and behind its last lines. Each names the line of the text that it comes from.
+pub record Closed (words after : List ℕ) (p first last : Place) (x : ℕ) (looped : Bool) : Type 0 where
+  pub branch : entry-at after (p .entry) ≡ SBranch x (suc (p .entry)) (suc (first .entry)) (suc (last .entry)) looped
+  pub first-jump : entry-at after (first .entry) ≡ SJump (cond looped (p .entry) (suc (last .entry)))
+  pub last-jump : entry-at after (last .entry) ≡ SJump (cond looped (p .entry) (suc (last .entry)))
+  pub others : (i : ℕ) → (i ≡ p .entry → ⊥) → (i ≡ first .entry → ⊥) → (i ≡ last .entry → ⊥) → entry-at after i ≡ entry-at words i
+  pub branch-line : text-line after (p .entry) ≡ p .line
+  pub first-line : (first .entry ≡ last .entry → ⊥) → text-line after (first .entry) ≡ first .line
+  pub last-line : text-line after (last .entry) ≡ last .line
+  pub kept : Kept words after (p .entry) (suc (last .entry))
 
 -- Lines before the body are gone by; a body is not.
 pub record Skipped (text : List ℕ) (p r : Place) : Type 0 where

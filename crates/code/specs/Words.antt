@@ -40,5 +40,6 @@ pub record Wrote (words after : List ℕ) (i : ℕ) (s : Step) (line : ℕ) : Ty
   pub here : (lines : ℕ) → i < lines → step-at after lines i ≡ s
   pub told : text-line after i ≡ line
   pub others : (j lines : ℕ) → (j ≡ i → ⊥) → step-at after lines j ≡ step-at words lines j
+  pub lines-kept : (j : ℕ) → (j ≡ i → ⊥) → text-line after j ≡ text-line words j
   pub long : length after ≡ length words
   pub words-kept : (k : ℕ) → (k < i * 16) ⊎ (i * 16 + 16 ≤ k) → getD after k 0 ≡ getD words k 0

@@ -82,7 +82,7 @@ fn close(steps: &mut [u32], p: Place, first: Place, last: Place, looped: bool, e
     requires room { ⌜ last .entry < length (now steps) / 16 ⌝ }
     requires order { ⌜ p .entry < first .entry ⌝ }
     requires sorted { ⌜ first .entry ≤ last .entry ⌝ }
-    ensures { λ _. ⌜ Closed (now (steps .entry)) (now (steps .exit)) (p .entry) (first .entry) (last .entry) expr looped ⌝ }
+    ensures { λ _. ⌜ Closed (now (steps .entry)) (now (steps .exit)) p first last expr looped ⌝ }
 {
     let join = last.entry as u32 + 1;
     let to = if looped { p.entry as u32 } else { join };

@@ -71,6 +71,7 @@ compile-branch-returns t c =
             (kept-both _ _ _ o (c .after .result .entry) (kept-wider _ _ (suc fe) (suc le) o (c .after .result .entry) (omega arith) (omega arith) (last .kept))
             (kept-wider _ _ o (suc le) o (c .after .result .entry) (omega arith) (omega arith) (c .close .ensures .kept)));
       };
+      line = c .close .ensures .branch-line;
       further = omega arith;
       part = λ ns b z g br.
           branch-part ns (c .args .text .now) (g .names) (c .args .expr) (c .args .looped) b z (c .args .p) (c .after-inside .result) (c .args .depth - 1) (c .args .depth) (c .args .room) g br (c .after-inside .ensures)
@@ -83,6 +84,7 @@ compile-line-returns-in-Test t c =
     (λ f ns b z g. f ns b z g (is-branch ns (c .args .text .now) z (c .args .depth) (c .args .room) b (c .args .p) (c .args .line) false (c .in-Test .expr) (c .pre .scanned) (c .in-Test .is) g))
     (λ q m. record {
       moved = m .moved;
+      line = m .line;
       further = m .further;
       part = λ ns b z g. m .part ns b z g (is-branch ns (c .args .text .now) z (c .args .depth) (c .args .room) b (c .args .p) (c .args .line) false (c .in-Test .expr) (c .pre .scanned) (c .in-Test .is) g);
     })
@@ -94,6 +96,7 @@ compile-line-returns-in-Loop t c =
     (λ f ns b z g. f ns b z g (is-branch ns (c .args .text .now) z (c .args .depth) (c .args .room) b (c .args .p) (c .args .line) true (c .in-Loop .expr) (c .pre .scanned) (c .in-Loop .is) g))
     (λ q m. record {
       moved = m .moved;
+      line = m .line;
       further = m .further;
       part = λ ns b z g. m .part ns b z g (is-branch ns (c .args .text .now) z (c .args .depth) (c .args .room) b (c .args .p) (c .args .line) true (c .in-Loop .expr) (c .pre .scanned) (c .in-Loop .is) g);
     })
@@ -110,6 +113,7 @@ compile-line-returns-in-rest t c =
         fits = omega (arith, c .pre .entry);
         kept = kept-wider _ _ (c .args .p .entry) (suc (c .args .p .entry)) (c .args .p .entry) (c .after-next .result .entry) (omega arith) (omega arith) (wrote-kept _ _ (c .args .p .entry) (c .args .p .line) (c .step-of .result) wrote);
       };
+      line = wrote .told;
       further = omega arith;
       part = λ ns b z g.
           plain-part ns (c .args .text .now) z (c .args .depth) (c .args .room) _ _ b (c .args .p) (c .after-next .result) (c .args .line) (c .step-of .result) (c .args .p .line) (c .pre .scanned) (c .pre .goes)

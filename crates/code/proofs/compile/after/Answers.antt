@@ -5,4 +5,4 @@ use Rattle.code.proofs.compile.after.Needs as need
 
 pub returns : need.returns
 unfolding Next-line
-returns c = record { next = c .next-line .ensures .on; within = c .next-line .ensures .within; entry = omega arith }
+returns c = record { next = c .next-line .ensures .on; within = c .next-line .ensures .within; entry = omega arith; line = λ h. omega (arith, c .saturating-add .ensures) }

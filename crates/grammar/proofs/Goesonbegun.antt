@@ -34,7 +34,7 @@ use Rattle.grammar.specs.declared.lines.Lined.{Lined}
 use Rattle.grammar.proofs.Complete.{past}
 use Rattle.grammar.proofs.Sound.{cond-cases, run-splits, run-length, key-sound, Word-says, Worded, word-sound}
 use Rattle.grammar.proofs.Soundline.{kind-cell, line-sound}
-use Rattle.grammar.proofs.Goesonline.{then-fails, closed-is}
+use Rattle.grammar.proofs.Goesonline.{then-fails, closed-is, within-err}
 use Rattle.grammar.proofs.Goesonlines.{Shaped}
 use Rattle.grammar.proofs.Goesonfront.{Just, Both, Front, Got, front-map, got-map, front-none, front-first, front-second, front-then, got-bytes, front-bytes, front-word, front-key, got-word, got-expr, front-expr, shaped-zero, name-a, longer}
 
@@ -265,18 +265,10 @@ module _ (text : List ℕ) (find : List ℕ → Option ℕ) (o : ℕ) (finds : (
         [ inl q ↦ front-named i p (front-word text find i p q)
         | inr q ↦ front-by-word (q .0 .word) (word-part text i) i (q .0 .end) p (word-sound find text i (q .0) (q .1) .says) (got-word text find i (q .0) (q .1)) (q .2) ]
 
-  within-shape : (i p : ℕ) (r : Result Lined Refusal) → within-line i r ≡ Err (Shape p) → r ≡ Err (Shape p)
-  within-shape i p (Ok l) e =
-      elim (cond-cases (ltb 1025 (l .next - i)) _ _ (Err (Shape p)) e)
-        [ inl h ↦ let x = h .1 in let z : _≡_ {A = ℕ} 0 1 = cc in absurd (omega arith) | inr h ↦ let x = h .1 in let z : _≡_ {A = ℕ} 0 1 = cc in absurd (omega arith) ]
-  within-shape i p (Err d) e =
-      elim (cond-cases (ltb 1024 (place-of d - i)) _ _ (Err (Shape p)) e)
-        [ inl h ↦ let x = h .1 in let z : _≡_ {A = ℕ} 0 1 = cc in absurd (omega arith) | inr h ↦ h .1 ]
-
   -- the line at a byte
   pub front-line : (i p : ℕ) → line-at find text i ≡ Err (Shape p) → Front text Bodied i p
   unfolding line-at
-  front-line i p e = front-bare i p (within-shape i p (bare-at find text i) e)
+  front-line i p e = front-bare i p (within-err find text i p (bare-at find text i) e)
 
   -- a line that is read
   abbrev pub Head-of : List ℕ → List ℕ → Type 0

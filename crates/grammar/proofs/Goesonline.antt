@@ -137,12 +137,18 @@ module _ (find : List ℕ → Option ℕ) (text : List ℕ) where
   reach-more j q p h (inr (inl a)) = inr (inl (a .0, omega (arith, a .1)))
   reach-more j q p h (inr (inr a)) = inr (inr (a .0, omega (arith, a .1)))
 
-  pub kind-same : (t : List ℕ) (j q : ℕ) → Reach j q → Agree q text t → cell-kind (key-at text j) ≡ None → cell-kind (key-at t j) ≡ None
-  kind-same t j q (inl h) a e = let p = run-at text t word-byte refl j q h a in ap (λ u. cell-kind (key-of u)) (p .1) ∙ e
-  kind-same t j q (inr (inl h)) a e =
+  pub key-same : (t : List ℕ) (j q : ℕ) → Reach j q → Agree q text t → key-at t j ≡ key-at text j
+  key-same t j q (inl h) a = let p = run-at text t word-byte refl j q h a in ap key-of (p .1)
+  key-same t j q (inr (inl h)) a =
       let n : 8 < run-of word-byte (drop j t) = run-least word-byte refl (drop j text) (drop j t) 8 (omega (arith, h .0)) (agree-drop q j 8 text t (h .1) a) in
-      ap cell-kind (no-key-long t j (omega arith))
-  kind-same t j q (inr (inr h)) a e = ap cell-kind (no-key-here t j (ap letter (sym (a .bytes j (h .1))) ∙ h .0))
+      no-key-long t j (omega arith) ∙ sym (no-key-long text j (h .0))
+  key-same t j q (inr (inr h)) a = no-key-here t j (ap letter (sym (a .bytes j (h .1))) ∙ h .0) ∙ sym (no-key-here text j (h .0))
+
+  pub first-reach : (j q : ℕ) → word-at find text j ≡ Err (Shape q) → Reach j q
+  first-reach j q e =
+      elim (cases-bool (letter (getD text j 0)))
+        [ inl l ↦ let p = word-refused j q l e in inr (inl (p .0, omega (arith, p .1)))
+        | inr l ↦ inr (inr (l, word-same text text find j .err q e .0)) ]
 
 module _ (find : List ℕ → Option ℕ) (text t : List ℕ) where
   pub closed-is : (s : List ℕ) (l : Line) (i : ℕ) → closed s l i ≡ cond (eqb (getD s i 0) 10) (Ok (record { line = l; next = i + 1 })) (Err (Shape i))
@@ -195,8 +201,8 @@ module _ (find : List ℕ → Option ℕ) (text t : List ℕ) where
   by-same : (k j : ℕ) (c : Option Bool) → cell-kind (key-at text j) ≡ c → Same-read text t next-of j (assign-by find text k j c) (assign-by find t k j (cell-kind (key-at t j)))
   by-same k j None h =
       record {
-        ok = λ x e. let q = with-same (line.Put k j) j .ok x e in (q .0, λ a. rw (kind-same find text t j (next-of x) (with-ok (line.Put k j) j x e) a h) (q .1 a));
-        err = λ m e. let q = with-same (line.Put k j) j .err m e in (q .0, λ a. rw (kind-same find text t j m (with-err (line.Put k j) j m e) a h) (q .1 a)) }
+        ok = λ x e. let q = with-same (line.Put k j) j .ok x e in (q .0, λ a. rw (ap cell-kind (key-same find text t j (next-of x) (with-ok (line.Put k j) j x e) a) ∙ h) (q .1 a));
+        err = λ m e. let q = with-same (line.Put k j) j .err m e in (q .0, λ a. rw (ap cell-kind (key-same find text t j m (with-err (line.Put k j) j m e) a) ∙ h) (q .1 a)) }
   by-same k j (Some f) h =
       let n : ℕ = j + run-of word-byte (drop j text) in
       record {
@@ -220,24 +226,24 @@ module _ (find : List ℕ → Option ℕ) (text t : List ℕ) where
     → Same-read text t next-of i (and-then (bytes-at text (codes " ") i) (λ e. with-expr find text (l e) e)) (and-then (bytes-at t (codes " ") i) (λ e. with-expr find t (l e) e))
   head-same l i = same-then text t itself next-of i (bytes-at text (codes " ") i) (bytes-at t (codes " ") i) _ _ (bytes-same text t (codes " ") i) (λ e. with-same (l e) e)
 
-  key-same : (k : Keyword) (i : ℕ) → Same-read text t next-of i (by-key find text k i) (by-key find t k i)
+  keyed-same : (k : Keyword) (i : ℕ) → Same-read text t next-of i (by-key find text k i) (by-key find t k i)
   unfolding by-key
-  key-same kw.Own i = same-shape text t next-of i i (omega arith)
-  key-same kw.Cells i = same-shape text t next-of i i (omega arith)
-  key-same kw.Cell i = write-same false i
-  key-same kw.Field i = write-same true i
-  key-same kw.Barrier i = closed-same line.Barrier i
-  key-same kw.If i = head-same line.If i
-  key-same kw.Else i = closed-same line.Else i
-  key-same kw.End i = closed-same line.End i
-  key-same kw.While i = head-same line.While i
-  key-same kw.Lane i = same-shape text t next-of i i (omega arith)
-  key-same kw.Group i = same-shape text t next-of i i (omega arith)
-  key-same kw.Lanes i = same-shape text t next-of i i (omega arith)
+  keyed-same kw.Own i = same-shape text t next-of i i (omega arith)
+  keyed-same kw.Cells i = same-shape text t next-of i i (omega arith)
+  keyed-same kw.Cell i = write-same false i
+  keyed-same kw.Field i = write-same true i
+  keyed-same kw.Barrier i = closed-same line.Barrier i
+  keyed-same kw.If i = head-same line.If i
+  keyed-same kw.Else i = closed-same line.Else i
+  keyed-same kw.End i = closed-same line.End i
+  keyed-same kw.While i = head-same line.While i
+  keyed-same kw.Lane i = same-shape text t next-of i i (omega arith)
+  keyed-same kw.Group i = same-shape text t next-of i i (omega arith)
+  keyed-same kw.Lanes i = same-shape text t next-of i i (omega arith)
 
   by-word-same : (w : Word) (i : ℕ) → Same-read text t next-of i (by-word find text w i) (by-word find t w i)
   by-word-same (word.Own k) i = assign-same k i
-  by-word-same (word.Key k) i = key-same k i
+  by-word-same (word.Key k) i = keyed-same k i
 
   pub bare-same : (i : ℕ) → Same-read text t next-of i (bare-at find text i) (bare-at find t i)
   unfolding bare-at
@@ -262,3 +268,43 @@ module _ (find : List ℕ → Option ℕ) (text t : List ℕ) where
   pub line-same : (i : ℕ) → Same-read text t next-of i (line-at find text i) (line-at find t i)
   unfolding line-at
   line-same i = within-same i (bare-at find text i) (bare-at find t i) (bare-same i)
+
+-- the first word of a line is seen to its end, or to its ninth byte
+module _ (find : List ℕ → Option ℕ) (text : List ℕ) where
+  token-at : (i q : ℕ) (x : Token) → word-at find text i ≡ Ok x → x .end ≤ q → Reach find text i q
+  token-at i q x e h = inl (omega (arith, word-sound find text i x e .end-is, run-length word-byte text i))
+
+  bare-reach-ok : (i : ℕ) (x : Lined) → bare-at find text i ≡ Ok x → Reach find text i (next-of x)
+  unfolding bare-at
+  bare-reach-ok i x e =
+      let p = then-parts (word-at find text i) _ x e in
+      token-at i (next-of x) (p .0) (p .1) (by-word-same find text text (p .0 .word) (p .0 .end) .ok x (p .2) .0)
+
+  bare-reach-err : (i q : ℕ) → bare-at find text i ≡ Err (Shape q) → Reach find text i q
+  unfolding bare-at
+  bare-reach-err i q e =
+      elim (then-fails (word-at find text i) _ (Shape q) e)
+        [ inl p ↦ first-reach find text i q p
+        | inr p ↦ token-at i q (p .0) (p .1) (by-word-same find text text (p .0 .word) (p .0 .end) .err q (p .2) .0) ]
+
+  pub within-ok : (i : ℕ) (r : Result Lined Refusal) (x : Lined) → within-line i r ≡ Ok x → r ≡ Ok x
+  within-ok i (Ok l) x e =
+      elim (cond-cases (ltb 1025 (l .next - i)) _ _ (Ok x) e) [ inl p ↦ absurd (not-err (Long (i + 1024)) x (p .1)) | inr p ↦ p .1 ]
+  within-ok i (Err d) x e =
+      elim (cond-cases (ltb 1024 (place-of d - i)) _ _ (Ok x) e) [ inl p ↦ absurd (not-err (Long (i + 1024)) x (p .1)) | inr p ↦ p .1 ]
+
+  pub within-err : (i q : ℕ) (r : Result Lined Refusal) → within-line i r ≡ Err (Shape q) → r ≡ Err (Shape q)
+  within-err i q (Ok l) e =
+      elim (cond-cases (ltb 1025 (l .next - i)) _ _ (Err (Shape q)) e)
+        [ inl p ↦ let x = p .1 in let z : _≡_ {A = ℕ} 0 1 = cc in absurd (omega arith) | inr p ↦ let x = p .1 in let z : _≡_ {A = ℕ} 0 1 = cc in absurd (omega arith) ]
+  within-err i q (Err d) e =
+      elim (cond-cases (ltb 1024 (place-of d - i)) _ _ (Err (Shape q)) e)
+        [ inl p ↦ let x = p .1 in let z : _≡_ {A = ℕ} 0 1 = cc in absurd (omega arith) | inr p ↦ p .1 ]
+
+  pub line-reach-ok : (i : ℕ) (x : Lined) → line-at find text i ≡ Ok x → Reach find text i (next-of x)
+  unfolding line-at
+  line-reach-ok i x e = bare-reach-ok i x (within-ok i (bare-at find text i) x e)
+
+  pub line-reach-err : (i q : ℕ) → line-at find text i ≡ Err (Shape q) → Reach find text i q
+  unfolding line-at
+  line-reach-err i q e = bare-reach-err i q (within-err i q (bare-at find text i) e)

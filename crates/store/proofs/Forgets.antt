@@ -22,7 +22,7 @@ lane-as : (o o′ : List ℕ) (x : Lane) → o ≡ o′ → _≡_ {A = Lane} (re
 lane-as o o′ x e = rw e
 
 -- a lane that goes on is not changed, and what is forgotten is forgotten once
-kept-lane : (x : Lane) → ended (x .left) ≡ false → forget-lane x ≡ x
+pub kept-lane : (x : Lane) → ended (x .left) ≡ false → forget-lane x ≡ x
 kept-lane x e = lane-as (cond (ended (x .left)) [] (x .own)) (x .own) x (cond-false (ended (x .left)) [] (x .own) e)
 
 cond-twice : (b : Bool) (xs : List ℕ) → cond b [] (cond b [] xs) ≡ cond b [] xs
@@ -44,20 +44,20 @@ groups-twice [] = refl
 groups-twice (q ∷ qs) = rw (group-twice q, groups-twice qs)
 
 -- groups and lanes of what is left
-group-forgot : (d : Grid) (g : ℕ) → the-group (forget d) g ≡ forget-group (the-group d g)
+pub group-forgot : (d : Grid) (g : ℕ) → the-group (forget d) g ≡ forget-group (the-group d g)
 unfolding the-group
 group-forgot d g = List·getD-map forget-group (d .groups-of) g no-group
 
-lane-forgot : (d : Grid) (g l : ℕ) → the-lane (forget d) g l ≡ forget-lane (the-lane d g l)
+pub lane-forgot : (d : Grid) (g l : ℕ) → the-lane (forget d) g l ≡ forget-lane (the-lane d g l)
 unfolding the-lane ended
 lane-forgot d g l = ap (λ (q : Group). getD (q .lanes-of) l no-lane) (group-forgot d g) ∙ List·getD-map forget-lane (the-group d g .lanes-of) l no-lane
 
-all-forgot : (f : Body → Bool) (xs : List Lane) → all-lanes f (map forget-lane xs) ≡ all-lanes f xs
+pub all-forgot : (f : Body → Bool) (xs : List Lane) → all-lanes f (map forget-lane xs) ≡ all-lanes f xs
 unfolding all-lanes
 all-forgot f [] = refl
 all-forgot f (x ∷ xs) = ap (λ b. f (x .left) && b) (all-forgot f xs)
 
-can-forgot : (n : ℕ) (d : Grid) (t : Turn) → can n (forget d) t ≡ can n d t
+pub can-forgot : (n : ℕ) (d : Grid) (t : Turn) → can n (forget d) t ≡ can n d t
 unfolding can
 can-forgot n d (of g l) = rw (length-map (d .groups-of) forget-group, lane-forgot d g l)
 can-forgot n d (release g) = rw (length-map (d .groups-of) forget-group, group-forgot d g, all-forgot at-barrier (the-group d g .lanes-of))
@@ -124,7 +124,7 @@ turn-forgot n d t = rw (can-forgot n d t) (by (cases-bool (can n d t)))
 turn-alike : (n : ℕ) (d e : Grid) (t : Turn) → forget d ≡ forget e → forget (turn n d t) ≡ forget (turn n e t)
 turn-alike n d e t h = sym (turn-forgot n d t) ∙ ap (λ x. forget (turn n x t)) h ∙ turn-forgot n e t
 
-turns-alike : (n : ℕ) (ts : List Turn) (d e : Grid) → forget d ≡ forget e → forget (turns n d ts) ≡ forget (turns n e ts)
+pub turns-alike : (n : ℕ) (ts : List Turn) (d e : Grid) → forget d ≡ forget e → forget (turns n d ts) ≡ forget (turns n e ts)
 unfolding turns
 turns-alike n [] d e h = h
 turns-alike n (t ∷ ts) d e h = turns-alike n ts (turn n d t) (turn n e t) (turn-alike n d e t h)
@@ -141,14 +141,14 @@ front-forgot n d t = rw (can-forgot n d t) (by (cases-bool (can n d t)))
     by (inl e) = rw e (marks-forgot n d t e)
     by (inr e) = rw e refl
 
-marked-alike : (n : ℕ) (ts : List Turn) (d e : Grid) → forget d ≡ forget e → marked n d ts ≡ marked n e ts
+pub marked-alike : (n : ℕ) (ts : List Turn) (d e : Grid) → forget d ≡ forget e → marked n d ts ≡ marked n e ts
 unfolding marked
 marked-alike n [] d e h = refl
 marked-alike n (t ∷ ts) d e h =
     let f = sym (front-forgot n d t) ∙ ap (λ x. cond (can n x t) (marks-at n x t) []) h ∙ front-forgot n e t in
     rw (f, marked-alike n ts (turn n d t) (turn n e t) (turn-alike n d e t h))
 
-steps-alike : (n : ℕ) (ts : List Turn) (d e : Grid) → forget d ≡ forget e → steps n d ts ≡ steps n e ts
+pub steps-alike : (n : ℕ) (ts : List Turn) (d e : Grid) → forget d ≡ forget e → steps n d ts ≡ steps n e ts
 unfolding steps
 steps-alike n [] d e h = refl
 steps-alike n (t ∷ ts) d e h =
@@ -182,9 +182,3 @@ module _ (z : Sizes) (at : ℕ → Body) (ls ls′ : List ℕ) (alike : Alike z 
   grid-alike cs =
       grid-parts _ _ _ _
       (map-upto no-group forget-group (group-at z at ls′) (z .groups) ∙ upto-same no-group _ _ (z .groups) group-alike ∙ sym (map-upto no-group forget-group (group-at z at ls) (z .groups))) refl
-
-pub ended-free : Ended-free
-unfolding Ended-free
-ended-free z at ls ls′ cs ts alike =
-    let e = grid-alike z at ls ls′ alike cs in
-    (marked-alike (z .lanes) ts _ _ e, steps-alike (z .lanes) ts _ _ e, turns-alike (z .lanes) ts _ _ e)

@@ -7,3 +7,4 @@ pub mod Deeds
 pub mod Goes
 pub mod Begins
 pub mod Forgets
+pub mod Showing

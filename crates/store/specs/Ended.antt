@@ -5,7 +5,8 @@ use mathlib.Core.List.{List, [], map}
 use Prim.Native.Nat.{ℕ, _+_, _<_}
 use Rattle.lanes.specs.Syntax.{Body, ended}
 use Rattle.lanes.specs.Step.{Lane}
-use Rattle.lanes.specs.Grid.{Group, Grid, Turn, turns, marked, steps}
+use Rattle.lanes.specs.Grid.{Group, Grid, Turn, can, turns, marked, steps}
+use Rattle.lanes.specs.Told.{Told, Shows}
 use Rattle.store.specs.declared.Sizes.{Sizes}
 use Rattle.store.specs.Lent.{slot-of, line-at, phase-of, grid-of}
 
@@ -28,10 +29,13 @@ pub record Alike (z : Sizes) (at : ℕ → Body) (ls ls′ : List ℕ) : Type 0 
       slot-of z ls′ g (128 + k) l ≡ slot-of z ls g (128 + k) l
 
 -- Then every row of turns has the same touches, as many steps, and leaves the same grid but for own numbers of lanes that have ended:
--- the same cells, lines, phases and wrong lanes.
+-- the same cells, lines, phases and wrong lanes; the same turns can be done after it; and it shows the same to be told.
+pub record Does-same (z : Sizes) (at : ℕ → Body) (ls ls′ cs : List ℕ) (ts : List Turn) : Type 0 where
+  pub marks : marked (z .lanes) (grid-of z at ls′ cs) ts ≡ marked (z .lanes) (grid-of z at ls cs) ts
+  pub steps : steps (z .lanes) (grid-of z at ls′ cs) ts ≡ steps (z .lanes) (grid-of z at ls cs) ts
+  pub grid : forget (turns (z .lanes) (grid-of z at ls′ cs) ts) ≡ forget (turns (z .lanes) (grid-of z at ls cs) ts)
+  pub can : (t : Turn) → can (z .lanes) (turns (z .lanes) (grid-of z at ls′ cs) ts) t ≡ can (z .lanes) (turns (z .lanes) (grid-of z at ls cs) ts) t
+  pub shows : (most : ℕ) (told : Told) → Shows most (z .lanes) (grid-of z at ls cs) ts told → Shows most (z .lanes) (grid-of z at ls′ cs) ts told
+
 unfoldable pub Ended-free : Type 0
-Ended-free =
-    (z : Sizes) (at : ℕ → Body) (ls ls′ cs : List ℕ) (ts : List Turn) → Alike z at ls ls′ →
-    (marked (z .lanes) (grid-of z at ls′ cs) ts ≡ marked (z .lanes) (grid-of z at ls cs) ts)
-    × (steps (z .lanes) (grid-of z at ls′ cs) ts ≡ steps (z .lanes) (grid-of z at ls cs) ts)
-    × (forget (turns (z .lanes) (grid-of z at ls′ cs) ts) ≡ forget (turns (z .lanes) (grid-of z at ls cs) ts))
+Ended-free = (z : Sizes) (at : ℕ → Body) (ls ls′ cs : List ℕ) (ts : List Turn) → Alike z at ls ls′ → Does-same z at ls ls′ cs ts

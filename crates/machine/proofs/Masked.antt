@@ -13,10 +13,10 @@ use Rattle.lanes.specs.Syntax.{Body, end}
 use Rattle.lanes.specs.Grid.{Grid, Turn, of, can, turn, turns, steps, weight}
 use Rattle.store.specs.declared.Sizes.{Sizes}
 use Rattle.store.specs.declared.Todo.{Todo}
-use Rattle.store.specs.Layout.{slots}
-use Rattle.store.specs.Lent.{slot-of, line-at, own-of, grid-of, Lined, Only}
+use Rattle.store.specs.Layout.{Sized, slots}
+use Rattle.store.specs.Lent.{slot-of, line-at, own-of, grid-of, phase-of, Lined, Only}
 use Rattle.store.specs.Acts.{Next-is, Ready, Goes}
-use Rattle.store.proofs.Slots.{own-same}
+use Rattle.store.proofs.Slots.{own-same, phase-same}
 use Rattle.machine.specs.declared.outcome.Outcome.{Outcome}
 use Rattle.machine.specs.declared.outcome.Outcome.the-variants.{Fine, Raced, Wrong}
 use Rattle.machine.specs.Sofar.{Sofar, After, Names}
@@ -112,3 +112,8 @@ module _ (z : Sizes) (ls cs ks : List ℕ) (g start mask stop : ℕ) (todo : Tod
 
   pub row-all : (ls′ cs′ ks′ : List ℕ) → Row-sofar z ls cs ks ls′ cs′ ks′ g start mask stop todo xs ys 32 → Row-outcome z ls cs ks ls′ cs′ ks′ g start mask stop todo xs ys Fine
   row-all ls′ cs′ ks′ far = record { many = 32; ends = refl; did = far .did; after = far .sofar }
+
+  pub row-phase : (ls′ cs′ ks′ : List ℕ) (i : ℕ) → Sized z → Row-sofar z ls cs ks ls′ cs′ ks′ g start mask stop todo xs ys i → phase-of z ls′ g ≡ phase-of z ls g
+  row-phase ls′ cs′ ks′ i k far =
+      let some : 0 < z .lanes = let p = k .some-lane in omega arith in
+      phase-same z ls ls′ g (far .did .words g 2 0 (omega arith) (omega arith) some) (far .did .words g 3 0 (omega arith) (omega arith) some)

@@ -4,7 +4,7 @@ ghost use mathlib.Core.Bool.{Bool, true};
 ghost use Prim.Native.Nat.{ℕ, _+_, _*_, _<_, _≤_};
 ghost use lib.ListN.{length};
 ghost use Rattle.store.specs.Layout.{cells-room};
-ghost use Rattle.store.specs.Lent.{Lent};
+ghost use Rattle.store.specs.Lent.{Lent, phase-of};
 ghost use Rattle.store.specs.Acts.{Todo-fits};
 ghost use Rattle.machine.specs.Line.{on};
 ghost use Rattle.machine.specs.Masks.{Lane-did, Row-outcome};
@@ -31,7 +31,7 @@ pub struct Work {
     pub line: u32,
 }
 
-// Lane l of group g does its step, and its touch is looked at.
+// Lane l of group g, which is in that phase, does its step, and its touch is looked at.
 pub fn do_lane(
     z: Sizes,
     lanes: &mut [u32],
@@ -39,6 +39,7 @@ pub fn do_lane(
     marks: &mut [u64],
     g: usize,
     l: usize,
+    phase: u64,
     work: Work,
     c: u32,
     v: u32,
@@ -47,10 +48,10 @@ pub fn do_lane(
     requires watch { ⌜ 6 * cells-room z ≤ length (now marks) ⌝ }
     requires group { ⌜ g < z .groups ⌝ }
     requires lane { ⌜ l < z .lanes ⌝ }
+    requires phase { ⌜ phase ≡ phase-of z (now lanes) g ⌝ }
     requires there { ⌜ Todo-fits z (work .todo) ⌝ }
     ensures { λ r. ⌜ Lane-did z (now (lanes .entry)) (now (cells .entry)) (now (marks .entry)) (now (lanes .exit)) (now (cells .exit)) (now (marks .exit)) g l (work .stop) (work .todo) c v r ⌝ }
 {
-    let phase = phase_of(z, lanes, g);
     let deed = perform(z, lanes, cells, g, l, work.stop, work.todo, c, v);
     note(z, marks, g, l, phase, work.line, deed)
 }
@@ -83,6 +84,7 @@ pub fn do_masked(
     requires seconds { ⌜ 32 ≤ length (now ys) ⌝ }
     ensures { λ r. ⌜ Row-outcome z (now (lanes .entry)) (now (cells .entry)) (now (marks .entry)) (now (lanes .exit)) (now (cells .exit)) (now (marks .exit)) (row .group) (row .start) (row .mask) (work .stop) (work .todo) (now (xs .entry)) (now (ys .entry)) r ⌝ }
 {
+    let phase = phase_of(z, lanes, row.group);
     for i in 0..32usize {
         if is_on(row.mask, i) {
             match do_lane(
@@ -92,6 +94,7 @@ pub fn do_masked(
                 marks,
                 row.group,
                 row.start + i,
+                phase,
                 work,
                 xs[i],
                 ys[i],

@@ -93,9 +93,9 @@ module _ (n : ℕ) (a : Grid) (us : List Turn) (g : ℕ) (same : forget-group (t
   pub group-stays : the-group (turns n a us) g ≡ the-group a g
   group-stays =
       group-is _ _ _ _
-        (upto-is no-lane (λ l. getD (the-group a g .lanes-of) l no-lane) (length (the-group a g .lanes-of)) (the-group (turns n a us) g .lanes-of) lanes-long lanes-stay
-          ∙ sym (upto-is no-lane (λ l. getD (the-group a g .lanes-of) l no-lane) (length (the-group a g .lanes-of)) (the-group a g .lanes-of) refl (λ _ _. refl)))
-        (ap (λ (q : Group). q .phase) same)
+      (upto-is no-lane (λ l. getD (the-group a g .lanes-of) l no-lane) (length (the-group a g .lanes-of)) (the-group (turns n a us) g .lanes-of) lanes-long lanes-stay
+      ∙ sym (upto-is no-lane (λ l. getD (the-group a g .lanes-of) l no-lane) (length (the-group a g .lanes-of)) (the-group a g .lanes-of) refl (λ _ _. refl)))
+      (ap (λ (q : Group). q .phase) same)
 
 -- what is forgotten says nothing of ends, wrong lanes, waiting and memory
 all-ended-forgot : (gs : List Group) → all-ended (map forget-group gs) ≡ all-ended gs
@@ -134,15 +134,19 @@ module _ (most n : ℕ) (d e : Grid) (ts : List Turn) (same : forget e ≡ forge
   stays-too g stays us =
       rw (turns-append n e ts us)
       (group-stays n (turns n e ts) us g
-        (group-same (turns n (turns n e ts) us) (turns n (turns n d ts) us) (turns-alike n us (turns n e ts) (turns n d ts) after) g
-          ∙ (ap forget-group (ap (λ (x : Grid). the-group x g) (sym (turns-append n d ts us)) ∙ stays us) ∙ sym (group-same (turns n e ts) (turns n d ts) after g))))
+      (group-same (turns n (turns n e ts) us) (turns n (turns n d ts) us) (turns-alike n us (turns n e ts) (turns n d ts) after) g
+      ∙ (ap forget-group (ap (λ (x : Grid). the-group x g) (sym (turns-append n d ts us)) ∙ stays us) ∙ sym (group-same (turns n e ts) (turns n d ts) after g))))
 
   pub shows-too : (told : Told) → Shows most n d ts told → Shows most n e ts told
   unfolding Shows None-wrong
   shows-too (cells cs) (end, right, calm, few, is) =
-      let m = marked-alike n ts e d same in
-      (ended-same (turns n e ts) (turns n d ts) after ∙ end, (λ g l. wrong-same (turns n e ts) (turns n d ts) after g l ∙ right g l), rw m calm, rw (steps-alike n ts e d same) few,
-        ap (λ (x : Grid). x .memory .all) after ∙ is)
+      let m = marked-alike n ts e d same in (
+        ended-same (turns n e ts) (turns n d ts) after ∙ end,
+        (λ g l. wrong-same (turns n e ts) (turns n d ts) after g l ∙ right g l),
+        rw m calm,
+        rw (steps-alike n ts e d same) few,
+        ap (λ (x : Grid). x .memory .all) after ∙ is,
+      )
   shows-too (races x y) s = rw (marked-alike n ts e d same) s
   shows-too (missing g l) s = wrong-same (turns n e ts) (turns n d ts) after g l ∙ s
   shows-too (stuck g) (there, stays, (l, hl, waits)) =
@@ -154,6 +158,9 @@ unfolding Ended-free
 ended-free z at ls ls′ cs ts alike =
     let e = grid-alike z at ls ls′ alike cs in
     record {
-      marks = marked-alike (z .lanes) ts _ _ e; steps = steps-alike (z .lanes) ts _ _ e; grid = turns-alike (z .lanes) ts _ _ e;
+      marks = marked-alike (z .lanes) ts _ _ e;
+      steps = steps-alike (z .lanes) ts _ _ e;
+      grid = turns-alike (z .lanes) ts _ _ e;
       can = can-same _ _ (turns-alike (z .lanes) ts _ _ e) (z .lanes);
-      shows = λ most told s. shows-too most (z .lanes) _ _ ts e told s }
+      shows = λ most told s. shows-too most (z .lanes) _ _ ts e told s;
+    }

@@ -15,3 +15,5 @@ mod Standing
 mod Running
 mod Counting
 mod Scripted
+mod Bounds
+mod Choosing

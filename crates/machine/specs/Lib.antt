@@ -6,3 +6,4 @@ pub mod Schedule
 pub mod Moves
 pub mod Plans
 pub mod Script
+pub mod Verdict

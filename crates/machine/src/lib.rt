@@ -1,4 +1,5 @@
 // The machine: its schedulers name turns, the executor does them, touches are looked at, and what is told is right.
+pub mod choose;
 pub mod count;
 pub mod exec;
 pub mod inturn;
@@ -10,3 +11,4 @@ pub mod release;
 pub mod row;
 pub mod schedule;
 pub mod script;
+pub mod verdict;

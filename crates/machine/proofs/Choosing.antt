@@ -38,7 +38,8 @@ unfolding lanes-in
 some-lanes mask i zero h e = absurd (omega arith)
 some-lanes mask i (suc k) h e = elim (cases-eq i k) [
   | inl q ↦ let r : on mask k ≡ true = subst (λ (j : ℕ). on mask j ≡ true) q e in rw r (omega arith)
-  | inr q ↦ let r = some-lanes mask i k (omega arith) e in omega arith ]
+  | inr q ↦ let r = some-lanes mask i k (omega arith) e in omega arith
+]
 
 few-at : (ns : List (List ℕ)) (text steps : List ℕ) (lines : ℕ) (z : Sizes) (at : ℕ → Body) (ls : List ℕ) (h : ℕ) → Loaded ns text steps lines z at → Sized z → Lined z (suc lines) ls → h < z .groups →
     barriers (at (line-at z ls h 0)) ≤ lines
@@ -55,7 +56,7 @@ module _ (ns : List (List ℕ)) (text steps-words : List ℕ) (lines : ℕ) (z :
       steps-append (z .lanes) d ts (row-turns g start mask 32)
       ∙ (ap (λ (k : ℕ). k + steps (z .lanes) (turns (z .lanes) d ts) (row-turns g start mask 32)) (stands .has-steps)
       ∙ ap (λ (k : ℕ). done + k)
-        (row-steps (z .lanes) (turns (z .lanes) d ts) g start mask 32 (λ j h e. ap (λ (x : Grid). can (z .lanes) x (of g (start + j))) (sym (stands .sofar .grid)) ∙ can-row .can-step j h e)))
+      (row-steps (z .lanes) (turns (z .lanes) d ts) g start mask 32 (λ j h e. ap (λ (x : Grid). can (z .lanes) x (of g (start + j))) (sym (stands .sofar .grid)) ∙ can-row .can-step j h e)))
 
   pub shows-long : (granted g start mask : ℕ) → Row-can z at ls cs g start mask → done ≤ granted → granted - done < lanes-in mask 32 → Shows granted (z .lanes) d (ts ++ row-turns g start mask 32) too-long
   unfolding Shows
@@ -73,20 +74,22 @@ module _ (ns : List (List ℕ)) (text steps-words : List ℕ) (lines : ℕ) (z :
 
     stands-now : Stands-at z at lines d (ts ++ row-turns g start mask 32) ls′ cs′ ks′ (done + lanes-in mask 32)
     stands-now = record {
-        sofar = sofar-now;
-        has-steps = row-steps-from g start mask can-row;
-        lined = ran .lined;
-        phases = λ h hg.
+      sofar = sofar-now;
+      has-steps = row-steps-from g start mask can-row;
+      lined = ran .lined;
+      phases = λ h hg.
           let p = stands .phases h hg in let q = same-phases h in let r = few-at ns text steps-words lines z at ls′ h loaded sized (ran .lined) hg in
-          let m = highest-more done (lanes-in mask 32) lines some in omega arith }
+          let m = highest-more done (lanes-in mask 32) lines some in omega arith;
+    }
 
     pub went-row : done ≤ granted → lanes-in mask 32 ≤ granted - done → Went-to z at lines d ls cs ls′ cs′ ks′ granted done (done + lanes-in mask 32) (Row g start mask)
     went-row h k = record {
-        us = ts ++ row-turns g start mask 32;
-        stands = stands-now;
-        grid = subst (λ (i : ℕ). grid-of z at ls′ cs′ ≡ turns (z .lanes) (grid-of z at ls cs) (row-turns g start mask i)) (ran .ends) (ran .grid);
-        granted-still = omega arith;
-        moved = inl (record { more = let s = some in omega arith; phases = same-phases }) }
+      us = ts ++ row-turns g start mask 32;
+      stands = stands-now;
+      grid = subst (λ (i : ℕ). grid-of z at ls′ cs′ ≡ turns (z .lanes) (grid-of z at ls cs) (row-turns g start mask i)) (ran .ends) (ran .grid);
+      granted-still = omega arith;
+      moved = inl (record { more = let s = some in omega arith; phases = same-phases });
+    }
 
   module _ (ls′ : List ℕ) (granted g : ℕ) (hg : g < z .groups) (could : can (z .lanes) (grid-of z at ls cs) (release g) ≡ true) (went : Went-on z steps-words lines g ls ls′) where
     runs : Runs z at steps-words lines ls
@@ -104,10 +107,11 @@ module _ (ns : List (List ℕ)) (text steps-words : List ℕ) (lines : ℕ) (z :
 
     sofar-gone : Sofar z at d (ts ++ (release g ∷ [])) ls′ cs ks
     sofar-gone = record {
-        grid = grid-now;
-        kept = rw marked-now (stands .sofar .kept);
-        no-race = rw marked-now (stands .sofar .no-race);
-        none-wrong = subst None-wrong (sym (grid-more (z .lanes) d ts (release g))) (right-released (z .lanes) (turns (z .lanes) d ts) g could-now (stands .sofar .none-wrong)) }
+      grid = grid-now;
+      kept = rw marked-now (stands .sofar .kept);
+      no-race = rw marked-now (stands .sofar .no-race);
+      none-wrong = subst None-wrong (sym (grid-more (z .lanes) d ts (release g))) (right-released (z .lanes) (turns (z .lanes) d ts) g could-now (stands .sofar .none-wrong));
+    }
 
     barriers-one : barriers (at (line-at z ls g 0)) ≡ suc (barriers (at (line-at z ls′ g 0)))
     unfolding barriers
@@ -117,20 +121,23 @@ module _ (ns : List (List ℕ)) (text steps-words : List ℕ) (lines : ℕ) (z :
     phases-gone h hh = elim (cases-eq h g) [
       | inl e ↦ rw e (let p = stands .phases g hg in let q = went .phase in let r = barriers-one in omega arith)
       | inr ne ↦ let some = sized .some-lane in let p = stands .phases h hh in let q = went .other-phases h ne in
-          let r : barriers (at (line-at z ls′ h 0)) ≡ barriers (at (line-at z ls h 0)) = ap (λ (i : ℕ). barriers (at i)) (went .other-lines h 0 (omega arith) ne) in omega arith ]
+          let r : barriers (at (line-at z ls′ h 0)) ≡ barriers (at (line-at z ls h 0)) = ap (λ (i : ℕ). barriers (at i)) (went .other-lines h 0 (omega arith) ne) in omega arith
+    ]
 
     stands-gone : Stands-at z at lines d (ts ++ (release g ∷ [])) ls′ cs ks done
     stands-gone = record {
-        sofar = sofar-gone;
-        has-steps = steps-more (z .lanes) d ts (release g) could-now ∙ (add-zero (steps (z .lanes) d ts) ∙ stands .has-steps);
-        lined = went .runs at cs runs could .lined;
-        phases = phases-gone }
+      sofar = sofar-gone;
+      has-steps = steps-more (z .lanes) d ts (release g) could-now ∙ (add-zero (steps (z .lanes) d ts) ∙ stands .has-steps);
+      lined = went .runs at cs runs could .lined;
+      phases = phases-gone;
+    }
 
     pub went-go : done ≤ granted → Went-to z at lines d ls cs ls′ cs ks granted done done (GoOn g)
     unfolding turns
     went-go h = record {
-        us = ts ++ (release g ∷ []);
-        stands = stands-gone;
-        grid = went .grid at cs runs could;
-        granted-still = h;
-        moved = inr (record { as-many = refl; group = g; there = hg; phase = went .phase; phases = went .other-phases }) }
+      us = ts ++ (release g ∷ []);
+      stands = stands-gone;
+      grid = went .grid at cs runs could;
+      granted-still = h;
+      moved = inr (record { as-many = refl; group = g; there = hg; phase = went .phase; phases = went .other-phases });
+    }

@@ -52,7 +52,8 @@ module _ (n : ℕ) (d : Grid) (g start mask : ℕ) where
   can-behind zero k h = refl
   can-behind (suc i) k h = elim (cases-bool (on mask i)) [
     | inl e ↦ rw (e, turns-append n d (row-turns g start mask i) (of g (start + i) ∷ [])) (turn-can n (turns n d (row-turns g start mask i)) (of g (start + i)) (of g (start + k)) (apart-of g start i k h) ∙ can-behind i k (omega arith))
-    | inr e ↦ rw (e, append-nil (row-turns g start mask i)) (can-behind i k (omega arith)) ]
+    | inr e ↦ rw (e, append-nil (row-turns g start mask i)) (can-behind i k (omega arith))
+  ]
 
   pub row-steps : (i : ℕ) → ((j : ℕ) → j < i → on mask j ≡ true → can n d (of g (start + j)) ≡ true) → steps n d (row-turns g start mask i) ≡ lanes-in mask i
   unfolding row-turns lanes-in steps
@@ -60,4 +61,5 @@ module _ (n : ℕ) (d : Grid) (g start mask : ℕ) where
   row-steps (suc i) all = elim (cases-bool (on mask i)) [
     | inl e ↦ rw (e, steps-append n d (row-turns g start mask i) (of g (start + i) ∷ []), row-steps i (λ j h. all j (omega arith)))
         (ap (λ (k : ℕ). lanes-in mask i + k) (steps-did n (turns n d (row-turns g start mask i)) (of g (start + i)) [] (can-behind i i (omega arith) ∙ all i (omega arith) e) ∙ add-zero 1))
-    | inr e ↦ rw (e, append-nil (row-turns g start mask i), row-steps i (λ j h. all j (omega arith))) (sym (add-zero (lanes-in mask i))) ]
+    | inr e ↦ rw (e, append-nil (row-turns g start mask i), row-steps i (λ j h. all j (omega arith))) (sym (add-zero (lanes-in mask i)))
+  ]

@@ -56,9 +56,10 @@ module _ (z : Sizes) (steps : List ℕ) (lines g : ℕ) (ls ls₁ ls₂ : List �
 
     pub went-on : Went-on z steps lines g ls ls₂
     went-on = record {
-        phase = rel ls₁ .phase ∙ ap (λ (k : ℕ). k + 1) (same-phase g);
-        other-phases = λ h ne. phase-other h ne ∙ same-phase h;
-        other-lines = λ h l hl ne. line-rest h l hl ne ∙ set .others h l hl (λ e _. ne e);
-        runs = runs-now;
-        behind = λ at cs l hl k could. behind-now at cs k could l hl;
-        grid = grid-now }
+      phase = rel ls₁ .phase ∙ ap (λ (k : ℕ). k + 1) (same-phase g);
+      other-phases = λ h ne. phase-other h ne ∙ same-phase h;
+      other-lines = λ h l hl ne. line-rest h l hl ne ∙ set .others h l hl (λ e _. ne e);
+      runs = runs-now;
+      behind = λ at cs l hl k could. behind-now at cs k could l hl;
+      grid = grid-now;
+    }

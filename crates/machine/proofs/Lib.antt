@@ -17,3 +17,5 @@ mod Counting
 mod Scripted
 mod Bounds
 mod Choosing
+mod Overs
+mod Looping

@@ -29,19 +29,21 @@ module _ (z : Sizes) (steps : List ℕ) (lines g l : ℕ) (ls : List ℕ) (entry
 
   pub settled-then : (ls′ : List ℕ) → store.Settled z g l entry ls ls′ → entry ≤ lines → Leads → Lane-settled z steps lines g l ls ls′
   settled-then ls′ s h leads = record {
-      only = s .only;
-      same = s .same;
-      runs = λ at k. record { ns = k .ns; text = k .text; owns = k .owns; coded = k .coded; lined = s .lined (suc lines) (omega arith) (k .lined) };
-      settled = λ at k. rw (s .here) (leads at k);
-      grid = λ at cs k. s .grid at cs (leads at k .left) }
+    only = s .only;
+    same = s .same;
+    runs = λ at k. record { ns = k .ns; text = k .text; owns = k .owns; coded = k .coded; lined = s .lined (suc lines) (omega arith) (k .lined) };
+    settled = λ at k. rw (s .here) (leads at k);
+    grid = λ at cs k. s .grid at cs (leads at k .left);
+  }
 
   pub settled-else : lines < entry → Leads → Lane-settled z steps lines g l ls ls
   settled-else h leads = record {
-      only = record { others = λ _ _ _ _ _ _. refl; words = λ _ _ _ _ _ _. refl };
-      same = λ _ _ _. refl;
-      runs = λ at k. k;
-      settled = λ at k. absurd (let w = leads at k .within in omega arith);
-      grid = λ at cs k. refl }
+    only = record { others = λ _ _ _ _ _ _. refl; words = λ _ _ _ _ _ _. refl };
+    same = λ _ _ _. refl;
+    runs = λ at k. k;
+    settled = λ at k. absurd (let w = leads at k .within in omega arith);
+    grid = λ at cs k. refl;
+  }
 
 pub leads-to : (z : Sizes) (at : ℕ → Body) (steps : List ℕ) (lines g l : ℕ) (ls : List ℕ) → g < z .groups → l < z .lanes → Runs z at steps lines ls → line-at z ls g l ≤ lines
 unfolding Lined
@@ -69,7 +71,7 @@ pub waits-next : (z : Sizes) (at : ℕ → Body) (steps : List ℕ) (lines i r :
     Bars at lines r
 waits-next z at steps lines i r ls k s b =
     at-barrier-next (Named (k .ns)) (k .text) (k .owns) lines at (step-at steps lines) r (step-at steps lines r) (s .stays) (k .coded .does r (s .within)) (k .coded .goes r (s .within))
-      (k .coded .onward r (s .within)) (rw (s .left) b)
+    (k .coded .onward r (s .within)) (rw (s .left) b)
 
 -- a group's lanes, one after the other
 module _ (z : Sizes) (steps : List ℕ) (lines g : ℕ) where
@@ -90,11 +92,13 @@ module _ (z : Sizes) (steps : List ℕ) (lines g : ℕ) where
 
   pub group-more : (l : ℕ) (ls ls′ ls″ : List ℕ) → l < z .lanes → Group-settled z steps lines g l ls ls′ → Lane-settled z steps lines g l ls′ ls″ → Group-settled z steps lines g (l + 1) ls ls″
   group-more l ls ls′ ls″ hl a b = record {
-      rest = λ h s k one hs hk. slot-kept ls′ ls″ l h s k b one hs hk ∙ a .rest h s k one hs hk;
-      others = λ h k hk ne. line-other ls′ ls″ l h k (b .only) hk (λ p q. ne p (omega arith)) ∙ a .others h k hk (λ p q. ne p (omega arith));
-      runs = λ at k. b .runs at (a .runs at k);
-      settled = λ at k h r. elim (cases-eq k l) [
-        | inl q ↦ let s = b .settled at (a .runs at r) in
-            rw q (subst (λ (i : ℕ). Settled at (step-at steps lines) lines i (line-at z ls″ g l)) (a .others g l hl (λ _ w. omega arith)) s)
-        | inr q ↦ subst (λ (i : ℕ). Settled at (step-at steps lines) lines (line-at z ls g k) i) (sym (line-other ls′ ls″ l g k (b .only) (omega arith) (λ _ w. q w))) (a .settled at k (omega arith) r) ];
-      grid = λ at cs k. b .grid at cs (a .runs at k) ∙ a .grid at cs k }
+    rest = λ h s k one hs hk. slot-kept ls′ ls″ l h s k b one hs hk ∙ a .rest h s k one hs hk;
+    others = λ h k hk ne. line-other ls′ ls″ l h k (b .only) hk (λ p q. ne p (omega arith)) ∙ a .others h k hk (λ p q. ne p (omega arith));
+    runs = λ at k. b .runs at (a .runs at k);
+    settled = λ at k h r. elim (cases-eq k l) [
+      | inl q ↦ let s = b .settled at (a .runs at r) in
+          rw q (subst (λ (i : ℕ). Settled at (step-at steps lines) lines i (line-at z ls″ g l)) (a .others g l hl (λ _ w. omega arith)) s)
+      | inr q ↦ subst (λ (i : ℕ). Settled at (step-at steps lines) lines (line-at z ls g k) i) (sym (line-other ls′ ls″ l g k (b .only) (omega arith) (λ _ w. q w))) (a .settled at k (omega arith) r)
+    ];
+    grid = λ at cs k. b .grid at cs (a .runs at k) ∙ a .grid at cs k;
+  }

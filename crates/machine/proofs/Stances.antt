@@ -53,7 +53,7 @@ one-not f [] l h e = absurd (omega arith)
 one-not f (x ∷ xs) zero h e = rw e
 one-not f (x ∷ xs) (suc l) h e = rw (one-not f xs l (omega arith) e) (and-false (f (x .left)))
 
-all-of : (f : Body → Bool) (xs : List Lane) → ((l : ℕ) → l < length xs → f (getD xs l no-lane .left) ≡ true) → all-lanes f xs ≡ true
+pub all-of : (f : Body → Bool) (xs : List Lane) → ((l : ℕ) → l < length xs → f (getD xs l no-lane .left) ≡ true) → all-lanes f xs ≡ true
 unfolding all-lanes
 all-of f [] h = refl
 all-of f (x ∷ xs) h = rw (h 0 (omega arith)) (all-of f xs (λ l k. h (suc l) (omega arith)))
@@ -73,11 +73,11 @@ module _ (z : Sizes) (at : ℕ → Body) (ls cs : List ℕ) where
   unfolding can
   cannot-outside g h = let p : length (grid-of z at ls cs .groups-of) ≤ g = rw (groups-long z at ls cs) h in grind (arith, tells)
 
-  lanes-long : (g : ℕ) → g < z .groups → length (the-group (grid-of z at ls cs) g .lanes-of) ≡ z .lanes
+  pub lanes-long : (g : ℕ) → g < z .groups → length (the-group (grid-of z at ls cs) g .lanes-of) ≡ z .lanes
   unfolding group-at
   lanes-long g hg = rw (the-group-is z at ls cs g hg) (upto-length (lane-at z at ls g) (z .lanes))
 
-  lane-left : (g l : ℕ) → g < z .groups → l < z .lanes → getD (the-group (grid-of z at ls cs) g .lanes-of) l no-lane .left ≡ at (line-at z ls g l)
+  pub lane-left : (g l : ℕ) → g < z .groups → l < z .lanes → getD (the-group (grid-of z at ls cs) g .lanes-of) l no-lane .left ≡ at (line-at z ls g l)
   unfolding group-at lane-at
   lane-left g l hg hl = rw (the-group-is z at ls cs g hg, upto-at no-lane (lane-at z at ls g) (z .lanes) l hl)
 

@@ -35,6 +35,6 @@ pub record Went-on (z : Sizes) (steps : List ℕ) (lines g : ℕ) (ls ls′ : Li
   pub other-lines : (h l : ℕ) → l < z .lanes → (h ≡ g → ⊥) → line-at z ls′ h l ≡ line-at z ls h l
   pub runs : (at : ℕ → Body) (cs : List ℕ) → Runs z at steps lines ls → can (z .lanes) (grid-of z at ls cs) (release g) ≡ true → Runs z at steps lines ls′
   pub behind : (at : ℕ → Body) (cs : List ℕ) (l : ℕ) → l < z .lanes → Runs z at steps lines ls → can (z .lanes) (grid-of z at ls cs) (release g) ≡ true →
-    at (line-at z ls g l) ≡ barrier (at (line-at z ls′ g l))
+      at (line-at z ls g l) ≡ barrier (at (line-at z ls′ g l))
   pub grid : (at : ℕ → Body) (cs : List ℕ) → Runs z at steps lines ls → can (z .lanes) (grid-of z at ls cs) (release g) ≡ true →
-    grid-of z at ls′ cs ≡ turn (z .lanes) (grid-of z at ls cs) (release g)
+      grid-of z at ls′ cs ≡ turn (z .lanes) (grid-of z at ls cs) (release g)

@@ -1,10 +1,10 @@
 -- The machine between two choices of its scheduler, and what it tells.
 use mathlib.Core.Path.{_≡_}
 use mathlib.Core.Logic.{_⊎_}
-use mathlib.Core.Bool.{Bool, true}
+use mathlib.Core.Bool.{Bool, true, false}
 use mathlib.Core.List.{List, []}
-use Prim.Native.Nat.{ℕ, zero, suc, _+_, _*_, _≤_, _<_}
-use Rattle.lanes.specs.Syntax.{Body, end, put, read-shared, write-shared, read-all, write-all, barrier, when, while}
+use Prim.Native.Nat.{ℕ, zero, suc, _+_, _*_, _-_, _≤_, _<_}
+use Rattle.lanes.specs.Syntax.{Body, end, put, read-shared, write-shared, read-all, write-all, barrier, when, while, at-barrier, ended}
 use Rattle.lanes.specs.Grid.{Grid, Turn, turns, steps}
 use Rattle.lanes.specs.Told as meaning
 use Rattle.lanes.specs.Told.{Shows}
@@ -17,7 +17,7 @@ use Rattle.machine.specs.declared.verdict.Verdict.the-variants.{Field, Raced, 
 use Rattle.machine.specs.declared.verdict.Went.{Went}
 use Rattle.machine.specs.declared.verdict.Went.the-variants.{On, Told}
 use Rattle.machine.specs.Sofar.{Sofar, first-mark, second-mark}
-use Rattle.machine.specs.Line.{Runs}
+use Rattle.machine.specs.Line.{Loaded, Runs}
 use Rattle.machine.specs.Schedule.{turns-of}
 
 -- What a verdict means, with the cells of the field.
@@ -79,3 +79,37 @@ Moved z at lines d ls cs ls′ cs′ ks′ granted done choice (Told v) = (us : 
 abbrev pub May-go : Sizes → List ℕ → ℕ → List ℕ → Choice → Type 0
 May-go z steps lines ls (Row g start mask) = Unit {0}
 May-go z steps lines ls (GoOn g) = (g < z .groups) × (phase-of z ls g < 18446744073709551615) × ((at : ℕ → Body) × Runs z at steps lines ls)
+
+-- Where no turn can be done: all lanes have ended, and it is a field; or a lane of the group waits.
+abbrev pub Over : Sizes → (ℕ → Body) → List ℕ → Verdict → Type 0
+Over z at ls Field = (g l : ℕ) → g < z .groups → l < z .lanes → ended (at (line-at z ls g l)) ≡ true
+Over z at ls (Stuck g) = (g < z .groups) × ((l : ℕ) × (l < z .lanes) × (at-barrier (at (line-at z ls g l)) ≡ true))
+Over z at ls (Raced r) = ⊥
+Over z at ls (Wrong g l) = ⊥
+Over z at ls TooLong = ⊥
+
+-- A lane of the group waits, or all of them have ended.
+abbrev pub Waiting : Sizes → (ℕ → Body) → List ℕ → ℕ → Bool → Type 0
+Waiting z at ls g true = (l : ℕ) × (l < z .lanes) × (at-barrier (at (line-at z ls g l)) ≡ true)
+Waiting z at ls g false = (l : ℕ) → l < z .lanes → ended (at (line-at z ls g l)) ≡ true
+
+-- The machine sets out: the program lies in the words, the slices stand for a grid, of which the scheduler, s, knows what it has to.
+pub record Sets-out {S : Type 0} (knows : S → ℕ → Grid → Type 0) (s : S) (ns : List (List ℕ)) (text steps : List ℕ) (lines : ℕ) (z : Sizes) (at : ℕ → Body) (ls cs ks : List ℕ) : Type 0 where
+  pub loaded : Loaded ns text steps lines z at
+  pub stands : Stands-at z at lines (grid-of z at ls cs) [] ls cs ks 0
+  pub knows-it : knows s (z .lanes) (grid-of z at ls cs)
+
+-- It has come so far from the grid d.
+pub record Comes {S : Type 0} (knows : S → ℕ → Grid → Type 0) (s : S) (lines : ℕ) (z : Sizes) (at : ℕ → Body) (d : Grid) (ls cs ks : List ℕ) (done : ℕ) : Type 0 where
+  pub ts : List Turn
+  pub stands : Stands-at z at lines d ts ls cs ks done
+  pub knows-it : knows s (z .lanes) (grid-of z at ls cs)
+
+-- The phases of all groups.
+unfoldable pub sum-upto : (ℕ → ℕ) → ℕ → ℕ
+sum-upto f zero = 0
+sum-upto f (suc n) = sum-upto f n + f n
+
+-- What is left to do at most: steps, and that groups go on.
+unfoldable pub left-over : Sizes → ℕ → ℕ → ℕ → List ℕ → ℕ
+left-over z lines granted done ls = (granted - done) + (z .groups * highest granted lines - sum-upto (phase-of z ls) (z .groups))

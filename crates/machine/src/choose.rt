@@ -50,7 +50,16 @@ pub fn do_choice(
             if granted - done < many {
                 return Went::Told(Verdict::TooLong);
             }
-            match do_row(text, steps, lines, z, lanes, cells, marks, Active { group, start, mask }) {
+            match do_row(
+                text,
+                steps,
+                lines,
+                z,
+                lanes,
+                cells,
+                marks,
+                Active { group, start, mask },
+            ) {
                 Outcome::Fine => Went::On(done + many),
                 Outcome::Raced(race) => Went::Told(Verdict::Raced(race)),
                 Outcome::Wrong { group, lane } => Went::Told(Verdict::Wrong { group, lane }),

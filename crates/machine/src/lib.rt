@@ -9,6 +9,7 @@ pub mod note;
 pub mod outcome;
 pub mod release;
 pub mod row;
+pub mod run;
 pub mod schedule;
 pub mod script;
 pub mod verdict;

@@ -17,7 +17,8 @@ loop-i-again c =
     let i = c .loop-i .inv .0 in let k = c .loop-i .inv .1 in
     elim (c .if-is-on .came) [
       | then-is-on w ↦ let e = lanes-on (c .args .mask) (c .loop-i .i) (sym (c .is-on .ensures) ∙ w .if-is-on .taken) in let m = w .many-is in (omega arith, omega arith)
-      | else-is-on w ↦ let e = lanes-off (c .args .mask) (c .loop-i .i) (sym (c .is-on .ensures) ∙ w .if-is-on .left) in let m = w .many-is in (omega arith, omega arith) ]
+      | else-is-on w ↦ let e = lanes-off (c .args .mask) (c .loop-i .i) (sym (c .is-on .ensures) ∙ w .if-is-on .left) in let m = w .many-is in (omega arith, omega arith)
+    ]
 
 pub returns : need.returns
 returns c = let e : c .loop-i .i ≡ 32 = omega arith in c .loop-i .inv .0 ∙ ap (λ (k : ℕ). lanes-in (c .args .mask) k) e

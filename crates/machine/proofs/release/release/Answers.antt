@@ -16,7 +16,8 @@ go-on-requires c κs =
       fit = let h = c .pre .fit in let k = c .settle-group .kept .lanes in omega arith;
       group = c .pre .group;
       phase = omega arith;
-      lined = lined-up (c .args .z) (suc (c .args .lines)) 4294967295 (c .settle-group .last .lanes) (omega arith) (s .runs (c .pre .runs .0) (c .pre .runs .1) .lined) }
+      lined = lined-up (c .args .z) (suc (c .args .lines)) 4294967295 (c .settle-group .last .lanes) (omega arith) (s .runs (c .pre .runs .0) (c .pre .runs .1) .lined);
+    }
 
 pub returns : need.returns
 returns c = went-on (c .args .z) (c .args .steps .now) (c .args .lines) (c .args .g) (c .args .lanes .now) (c .settle-group .last .lanes) (c .go-on .last .lanes) (c .pre .sized) (c .pre .group) (c .settle-group .ensures) (c .go-on .ensures)

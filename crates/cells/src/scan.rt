@@ -19,6 +19,13 @@ pub enum Next {
     Bad,
 }
 
+// Why no cells are read: the first byte that can't stand there, or a lent slice that is too short.
+#[derive(Clone, Copy)]
+pub enum Unread {
+    Bad(usize),
+    Short,
+}
+
 fn white(byte: u8) -> bool
     ensures { λ r. ⌜ r ≡ is-white byte ⌝ }
 {

@@ -5,10 +5,11 @@ ghost use Prim.Native.Nat.{_+_, _*_, _≤_, min};
 ghost use lib.ListN.{length, take, drop};
 ghost use Rattle.cells.specs.Scan.{begins-field, cells-from, cells-in, between-words};
 ghost use Rattle.cells.specs.Back.{Printed-back};
-ghost use Rattle.cells.specs.Post.{Reads, is-end};
+ghost use Rattle.cells.specs.Post.{Reads, Reads-text, is-end};
 ghost use Rattle.std.specs.shelf.Lists.{countBy};
 use crate::scan::Next;
 use crate::scan::Part;
+use crate::scan::Unread;
 use crate::scan::step;
 
 const BETWEEN: Part = Part {
@@ -57,8 +58,7 @@ fn read_from(text: &[u8], from: usize, hex: bool, cells: &mut [u32]) -> Result<u
     }
 }
 
-// The cells in a text, into a lent slice: how many, or the first byte that can't stand there.
-pub fn read_cells(text: &[u8], cells: &mut [u32]) -> Result<usize, usize>
+fn read_text(text: &[u8], cells: &mut [u32]) -> Result<usize, usize>
     requires { ⌜ length (now text) + 1 ≤ 2 * length (now cells) ⌝ }
     ensures { λ r. ⌜ Reads (cells-in (now (text .entry))) (now (cells .entry)) (now (cells .exit)) r ⌝ }
 {
@@ -66,6 +66,19 @@ pub fn read_cells(text: &[u8], cells: &mut [u32]) -> Result<usize, usize>
         read_from(text, 5, true, cells)
     } else {
         read_from(text, 0, false, cells)
+    }
+}
+
+// The cells in a text, into a lent slice of more than half as many words as the text has bytes: how many, or why not.
+pub fn read_cells(text: &[u8], cells: &mut [u32]) -> Result<usize, Unread>
+    ensures { λ r. ⌜ Reads-text (now (text .entry)) (cells-in (now (text .entry))) (now (cells .entry)) (now (cells .exit)) r ⌝ }
+{
+    if cells.len() <= text.len() / 2 {
+        return Err(Unread::Short);
+    }
+    match read_text(text, cells) {
+        Ok(count) => Ok(count),
+        Err(at) => Err(Unread::Bad(at)),
     }
 }
 

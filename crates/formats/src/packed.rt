@@ -1,6 +1,8 @@
 // Writing a field's bytes.
-ghost use Prim.Native.Nat.{_+_, _*_, _≤_};
+ghost use mathlib.Core.Path.{_≡_};
+ghost use Prim.Native.Nat.{_+_, _*_, _<_, _≤_};
 ghost use lib.ListN.{length};
+ghost use Rattle.std.specs.Options.{Cases as BySome};
 ghost use Rattle.formats.specs.Bytes.{two-bytes, four-bytes, eight-bytes};
 ghost use Rattle.formats.specs.Field.{cells-bytes, field-bytes};
 ghost use Rattle.formats.specs.Wrote.{Wrote};
@@ -41,14 +43,7 @@ fn put_words(out: &mut [u8], at: usize, cells: &[u32]) -> usize
     end
 }
 
-// Writes a field's bytes.
-pub fn put_field_bytes(
-    out: &mut [u8],
-    groups: usize,
-    lanes: usize,
-    steps: u64,
-    cells: &[u32],
-) -> usize
+fn put_field_bytes(out: &mut [u8], groups: usize, lanes: usize, steps: u64, cells: &[u32]) -> usize
     requires { ⌜ 16 + 4 * length (now cells) ≤ length (now out) ⌝ }
     ensures { λ r. ⌜ Wrote (now (out .entry)) (now (out .exit)) 0 r (field-bytes groups lanes steps (now (cells .entry))) ⌝ }
 {
@@ -57,4 +52,20 @@ pub fn put_field_bytes(
     let steps_end = put_eight(out, lanes_end, steps);
     let count_end = put_four(out, steps_end, cells.len() as u64);
     put_words(out, count_end, cells)
+}
+
+// Writes a field's bytes, and answers how many. None: the slice is too short for them, and nothing is written.
+pub fn write_field(
+    out: &mut [u8],
+    groups: usize,
+    lanes: usize,
+    steps: u64,
+    cells: &[u32],
+) -> Option<usize>
+    ensures { λ r. ⌜ BySome r ((length (now (out .entry)) < 16 + 4 * length (now (cells .entry))) × (now (out .exit) ≡ now (out .entry))) (λ n. (16 + 4 * length (now (cells .entry)) ≤ length (now (out .entry))) × Wrote (now (out .entry)) (now (out .exit)) 0 n (field-bytes groups lanes steps (now (cells .entry)))) ⌝ }
+{
+    if out.len() < 16 || (out.len() - 16) / 4 < cells.len() {
+        return None;
+    }
+    Some(put_field_bytes(out, groups, lanes, steps, cells))
 }

@@ -1,8 +1,9 @@
 // Makes a field's bytes of cells in a text.
+use cells::scan::Unread;
 use cells::text::lines_before;
 use cells::text::read_cells;
 use cells::text::word_at;
-use formats::packed::put_field_bytes;
+use formats::packed::write_field;
 use std::io;
 
 const USAGE: &str =
@@ -41,14 +42,16 @@ fn write(rt: &LibcRuntime, groups: u64, lanes: u64, steps: u64, cells: &[u32]) -
         return Err(io::Error::other("too many cells"));
     }
     let mut bytes: Vec<u8> = vec![in rt.alloc(); 0; 16 + 4 * cells.len()]?;
-    let _ = put_field_bytes(
+    match write_field(
         bytes.as_mut_slice(),
         groups as usize,
         lanes as usize,
         steps,
         cells,
-    );
-    rt.write_all(bytes.as_slice())
+    ) {
+        Some(_) => rt.write_all(bytes.as_slice()),
+        None => Err(io::Error::other("no room for the bytes")),
+    }
 }
 
 fn pack(rt: &LibcRuntime, words: &[String]) -> io::Result<()> {
@@ -62,7 +65,8 @@ fn pack(rt: &LibcRuntime, words: &[String]) -> io::Result<()> {
     let mut cells: Vec<u32> = vec![in rt.alloc(); 0; text.len() / 2 + 1]?;
     match read_cells(text.as_slice(), cells.as_mut_slice()) {
         Ok(count) => write(rt, groups, lanes, steps, &cells.as_slice()[0..count]),
-        Err(at) => bad(rt, text.as_slice(), at),
+        Err(Unread::Bad(at)) => bad(rt, text.as_slice(), at),
+        Err(Unread::Short) => Err(io::Error::other("no room for the cells")),
     }
 }
 

@@ -1,6 +1,6 @@
 use mathlib.Core.Path.{sym, _∙_}
 use Rattle.cells.proofs.Ahead.{in-hex, in-decimal, reads-as}
-use Rattle.cells.proofs.text.read_cells.Needs as need
+use Rattle.cells.proofs.text.read_text.Needs as need
 
 pub returns-then-begins-field : need.returns-then-begins-field
 returns-then-begins-field c =

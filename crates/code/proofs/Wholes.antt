@@ -271,17 +271,19 @@ module _ (text : List ℕ) (p : Place) (r : Line) (scan : Scan text (p .at) r) w
       record {
         within = w;
         entry = refl;
+        line = inl refl;
         own-line = λ u z e a l. absurd (h (keyword-scan text (u ++ (10 ∷ z)) (p .at) r Own scan e a .2));
         cells-line = λ u z e a l. absurd (h (keyword-scan text (u ++ (10 ∷ z)) (p .at) r Cells scan e a .2));
         stays = λ ns b z n l e. refl;
       }
 
-  pub past-heading : (q : Place) → r ≡ Heading → q .at ≤ length text → q .entry ≡ p .entry → Next-line text (p .at) (q .at) → Skipped text p q
+  pub past-heading : (q : Place) → r ≡ Heading → q .at ≤ length text → q .entry ≡ p .entry → (p .line < 4294967295 → q .line ≡ suc (p .line)) → Next-line text (p .at) (q .at) → Skipped text p q
   unfolding each-byte
-  past-heading q h w e n =
+  past-heading q h w e up n =
       record {
         within = w;
         entry = e;
+        line = inr up;
         own-line = λ u z d a l. next-is text (codes "own" ++ u) z (p .at) (q .at) n d (each-append in-line (codes "own") u refl l);
         cells-line = λ u z d a l. next-is text (codes "cells" ++ u) z (p .at) (q .at) n d (each-append in-line (codes "cells") u refl l);
         stays = λ ns b z names l halts.

@@ -179,6 +179,7 @@ pub record Closed (words after : List ℕ) (p first last : Place) (x : ℕ) (loo
 pub record Skipped (text : List ℕ) (p r : Place) : Type 0 where
   pub within : r .at ≤ length text
   pub entry : r .entry ≡ p .entry
+  pub line : (r ≡ p) ⊎ (p .line < 4294967295 → r .line ≡ suc (p .line))
   pub own-line : (u z : List ℕ) → drop (p .at) text ≡ codes "own" ++ (u ++ (10 ∷ z)) → Apart (u ++ (10 ∷ z)) → each-byte in-line u ≡ true → drop (r .at) text ≡ z
   pub cells-line : (u z : List ℕ) → drop (p .at) text ≡ codes "cells" ++ (u ++ (10 ∷ z)) → Apart (u ++ (10 ∷ z)) → each-byte in-line u ≡ true → drop (r .at) text ≡ z
   pub stays : (ns : List (List ℕ)) (b : Body) (z : List ℕ) → Names ns text → Lies ns text (p .at) b z → Halts z → r ≡ p

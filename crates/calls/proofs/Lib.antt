@@ -1,2 +1,3 @@
 mod Loading
 mod Placing
+mod Judging

@@ -18,7 +18,7 @@ use Rattle.code.specs.Make.{Compiled}
 use Rattle.code.proofs.Left.{left-zero}
 use Rattle.store.specs.declared.Sizes.{Sizes}
 use Rattle.store.specs.Layout.{base}
-use Rattle.store.specs.Lent.{upto, field-of, Lined, phase-of, grid-of, Started, Begun}
+use Rattle.store.specs.Lent.{upto, field-of, line-at, Lined, phase-of, grid-of, Started, Begun}
 use Rattle.store.proofs.Upto.{upto-same}
 use Rattle.touches.specs.Whole.{Layout, All-kept}
 use Rattle.machine.specs.Sofar.{layout}
@@ -46,12 +46,14 @@ field-copied z k m xs ys bs h e n =
 
 pub loads : (ns : List (List ℕ)) (p : Program) (z : Sizes) (text bytes steps after ls cs ls′ cs′ ks : List ℕ) (r : ℕ) → For ns p z text steps → Compiled ns p text steps after r → Started z ls cs ls′ cs′ →
     field-of z cs ≡ cells-read bytes (z .field) → ((y : Layout) → All-kept y [] ks) → Loads ns p z text bytes after ls′ cs′ ks r
-unfolding Begun Distinct
+unfolding Begun Distinct line-at
 loads ns p z text bytes steps after ls cs ls′ cs′ ks r f c s e k = record {
   loaded = record { names = spelled-names ns p text (f .taken .spelled) (f .taken .few-names); distinct = f .taken .distinct; owned = sym (f .taken .spelled .owned) ∙ f .owns; coded = c .coded };
   few = omega (arith, c .few, f .taken .few-lines);
   begins = s .begun (left-at (p .body)) p (left-zero (p .body)) (f .owns) (f .shared) ∙ ap (λ (x : List ℕ). begin p (z .groups) (z .lanes) x) e;
+  lines-are = c .lines;
   lined = s .lined (suc r) (omega arith);
   phases = s .phases;
+  first-line = λ g l h m. s .words g 0 l h (omega arith) m;
   kept = k (layout z);
 }

@@ -1,2 +1,4 @@
 // The calls that programs make: a text and a field's bytes, and the lent slices.
 mod load;
+mod told;
+mod judge;

@@ -19,3 +19,4 @@ mod Bounds
 mod Choosing
 mod Overs
 mod Looping
+pub mod Owns

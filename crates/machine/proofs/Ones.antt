@@ -7,7 +7,9 @@ use native.Mathlib.Nat.{add-zero, div-eq-of-lt}
 use native.Mathlib.Omega.{arith}
 use lib.Dec.{eqb}
 use Rattle.std.proofs.shelf.Bits.{pow-below}
-use Rattle.std.proofs.shelf.Tests.{both-ways}
+use Rattle.std.proofs.shelf.Tests.{both-ways, cases-lt}
+use mathlib.Core.Logic.{_⊎_, inl, inr}
+use Rattle.machine.proofs.Stances.{can-outside}
 use Rattle.lanes.specs.Syntax.{Body}
 use Rattle.lanes.specs.Grid.{Grid, Turn, of, release, can, turn, turns}
 use Rattle.store.specs.declared.Sizes.{Sizes}
@@ -57,3 +59,9 @@ In-turn-knows s n d = Passed n d (s .group) (s .lane)
 pub picked-says : (z : Sizes) (at : ℕ → Body) (ls cs : List ℕ) (c : Choice) → Picked z at ls cs (Some c) → Says In-turn-knows (come-to c) z at ls cs (Some c)
 picked-says z at ls cs (Row g l mask) q = (one-can z at ls cs g l mask (q .0) (q .1) (q .2) (q .3), one-passed (z .lanes) (grid-of z at ls cs) g l mask (q .0) (q .4))
 picked-says z at ls cs (GoOn g) q = (q .1, go-passed (z .lanes) (grid-of z at ls cs) g (q .2))
+
+-- a lane that can step is there
+pub step-in : (z : Sizes) (at : ℕ → Body) (ls cs : List ℕ) (g l : ℕ) → can (z .lanes) (grid-of z at ls cs) (of g l) ≡ true → (g < z .groups) × (l < z .lanes)
+step-in z at ls cs g l e =
+    (elim (cases-lt g (z .groups)) [ inl h ↦ h | inr h ↦ absurd (both-ways _ (can-outside z at ls cs g l (inl h)) e) ],
+      elim (cases-lt l (z .lanes)) [ inl h ↦ h | inr h ↦ absurd (both-ways _ (can-outside z at ls cs g l (inr h)) e) ])

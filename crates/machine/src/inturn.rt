@@ -87,7 +87,7 @@ fn came_to(choice: Choice) -> InTurn
     }
 }
 
-impl Scheduler for InTurn as InTurnScheduler {
+pub impl Scheduler for InTurn as InTurnScheduler {
     ghost knows = { λ s n d. Passed n d (s .group) (s .lane) };
 
     fn next(&mut self, steps: &[u32], lines: usize, z: Sizes, lanes: &[u32]) -> Option<Choice> {

@@ -8,6 +8,7 @@ pub mod look;
 pub mod note;
 pub mod outcome;
 pub mod release;
+pub mod replay;
 pub mod row;
 pub mod run;
 pub mod schedule;

@@ -8,6 +8,8 @@ use std::io;
 
 fn main(rt: LibcRuntime) -> io::Result<()> {
     let file = cli::read(&rt, "texts")?;
+    let right = texts::read_all(file.as_slice());
+    println!(rt, "texts read: {right} right")?;
     let right = texts::run_all(&rt, file.as_slice())?;
     println!(rt, "texts written anew: {right} right")?;
     let file = cli::read(&rt, "fields")?;

@@ -1,7 +1,11 @@
-// Texts that are taken, and how they are written anew.
+// Texts: which are taken, how the others are refused, and how those that are taken are written anew.
 use crate::cases::bytes_of;
 use crate::cases::find_case;
 use crate::cases::is_right;
+use grammar::numbers::read_number;
+use grammar::refusals::refusal_number;
+use grammar::refusals::refusal_place;
+use reader::texts::read;
 use std::io;
 use writer::anew::rewrite;
 
@@ -34,4 +38,35 @@ pub(crate) fn run_all(rt: &LibcRuntime, file: &[u8]) -> io::Result<u64> {
         right = right.saturating_add(1);
     }
     Ok(right)
+}
+
+// The text is taken, or refused with the number and the place that the case has.
+fn is_read(text: &[u8], told: &[u8]) -> bool {
+    match read(text) {
+        Ok(_) => !is_refusal(told),
+        Err(refusal) => {
+            let number = read_number(told, 8);
+            let place = read_number(told, 13);
+            is_refusal(told)
+                && number.value == refusal_number(refusal) as u64
+                && place.value == refusal_place(refusal) as u64
+        }
+    }
+}
+
+// How many texts are read as the file has it, up to the first that is not.
+pub(crate) fn read_all(file: &[u8]) -> u64 {
+    let mut right = 0u64;
+    let mut at = 0;
+    for _ in 0..1000 {
+        let Some(case) = find_case(file, at) else {
+            break;
+        };
+        at = case.told.next;
+        if !is_read(bytes_of(file, case.text), bytes_of(file, case.told)) {
+            break;
+        }
+        right = right.saturating_add(1);
+    }
+    right
 }

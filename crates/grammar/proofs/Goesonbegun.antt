@@ -181,6 +181,20 @@ assigned-side = record { left = codes " = "; right = codes "0\n"; one = refl; tw
 written-rest : Both Shaped (Both (Just (codes " = ")) Ended) (codes "0 = 0\n")
 written-rest = record { left = codes "0"; right = codes " = 0\n"; one = shaped-zero; two = assigned-side; is = refl }
 
+-- a line that is read
+abbrev pub Head-of : List ℕ → List ℕ → Type 0
+Head-of w t = (u : List ℕ) × Shaped u × (t ≡ w ++ (u ++ (10 ∷ [])))
+
+abbrev pub Line-of : Line → List ℕ → Type 0
+Line-of (Put k x) t = Bodied t
+Line-of (Read f k x) t = Bodied t
+Line-of (Write f p v) t = Bodied t
+Line-of Barrier t = Bodied t
+Line-of (If x) t = Head-of (codes "if ") t
+Line-of Else t = Just (codes "else\n") t
+Line-of End t = Just (codes "end\n") t
+Line-of (While x) t = Head-of (codes "while ") t
+
 module _ (text : List ℕ) (find : List ℕ → Option ℕ) (o : ℕ) (finds : (k : ℕ) (u : List ℕ) → find u ≡ Some k → Any-name k u × (k < o)) where
   closed-place : (l : Line) (i p : ℕ) → closed text l i ≡ Err (Shape p) → i ≡ p
   closed-place l i p e =
@@ -269,20 +283,6 @@ module _ (text : List ℕ) (find : List ℕ → Option ℕ) (o : ℕ) (finds : (
   pub front-line : (i p : ℕ) → line-at find text i ≡ Err (Shape p) → Front text Bodied i p
   unfolding line-at
   front-line i p e = front-bare i p (within-err find text i p (bare-at find text i) e)
-
-  -- a line that is read
-  abbrev pub Head-of : List ℕ → List ℕ → Type 0
-  Head-of w t = (u : List ℕ) × Shaped u × (t ≡ w ++ (u ++ (10 ∷ [])))
-
-  abbrev pub Line-of : Line → List ℕ → Type 0
-  Line-of (Put k x) t = Bodied t
-  Line-of (Read f k x) t = Bodied t
-  Line-of (Write f p v) t = Bodied t
-  Line-of Barrier t = Bodied t
-  Line-of (If x) t = Head-of (codes "if ") t
-  Line-of Else t = Just (codes "else\n") t
-  Line-of End t = Just (codes "end\n") t
-  Line-of (While x) t = Head-of (codes "while ") t
 
   got-from : (L : List ℕ → Type 0) (i n : ℕ) (w z : List ℕ) → L w → drop i text ≡ w ++ z → n ≡ i + length w → Got text L i n
   got-from L i n w z h e m = let q : drop n text ≡ z = ap (λ k. drop k text) m ∙ past text i w z e in record { bytes = w; is = h; here = e ∙ ap (λ t. w ++ t) (sym q); end-is = m }

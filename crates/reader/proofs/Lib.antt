@@ -5,3 +5,7 @@ pub mod Owns
 pub mod Counts
 pub mod Deeps
 pub mod Whole
+pub mod Goesonsame
+pub mod Goesonwell
+pub mod Goesonclosed
+pub mod Goesonheads

@@ -9,3 +9,4 @@ pub mod Goesonsame
 pub mod Goesonwell
 pub mod Goesonclosed
 pub mod Goesonheads
+pub mod Goesonread

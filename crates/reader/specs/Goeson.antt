@@ -1,0 +1,10 @@
+-- The first byte at which no text goes on so.
+use mathlib.Core.Path.{_≡_}
+use mathlib.Core.List.{List}
+use Prim.Native.Nat.{ℕ, _+_, _≤_, _<_}
+use lib.ListN.{length, take}
+use Rattle.grammar.specs.Spelling.{Viable}
+
+-- The bytes before byte p can go on to a text.
+pub record Goes-on (text : List ℕ) (p : ℕ) : Type 0 where
+  pub before : Viable (take p text)

@@ -1,3 +1,4 @@
 mod Loading
 mod Placing
 mod Judging
+mod Planning

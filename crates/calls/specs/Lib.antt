@@ -1,3 +1,4 @@
 pub mod Load
 pub mod Tell
 pub mod Judge
+pub mod Plan

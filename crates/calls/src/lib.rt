@@ -2,3 +2,4 @@
 mod load;
 mod told;
 mod judge;
+pub mod plan;

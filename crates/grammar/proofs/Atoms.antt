@@ -66,7 +66,7 @@ module _ (find : List ℕ → Option ℕ) (text : List ℕ) (i : ℕ) where
   expr-long n z h = rw (z, eq-eqb (getD text i 0) 40 h) refl
 
   pub expr-open : (n : ℕ) → (n ≡ 0 → ⊥) → getD text i 0 ≡ 40
-    → and-then (expr-at find text (n - 1) (i + 1)) (λ j. and-then (operator-at text j) (λ k. and-then (expr-at find text (n - 1) k) (λ l. bytes-at text (41 ∷ []) l))) ≡ expr-at find text n i
+      → and-then (expr-at find text (n - 1) (i + 1)) (λ j. and-then (operator-at text j) (λ k. and-then (expr-at find text (n - 1) k) (λ l. bytes-at text (41 ∷ []) l))) ≡ expr-at find text n i
   unfolding expr-at
   expr-open zero z h = absurd (z refl)
   expr-open (suc n) z h = rw (eq-eqb (getD text i 0) 40 h) (rw (suc-less n) refl)

@@ -97,7 +97,7 @@ pub byte-of : (text : List ℕ) (i : ℕ) (u z : List ℕ) → 1 ≤ length u �
 byte-of text i u z h e = ap (λ m. getD text m 0) (sym (add-zero i)) ∙ sym (getD-drop i text 0 0) ∙ ap (λ t. getD t 0 0) e ∙ begins-word u z h
 
 module _ (find : List ℕ → Option ℕ) (text : List ℕ) (i : ℕ) (u z : List ℕ) (some : 1 ≤ length u) (begins : letter (getD u 0 0) ≡ true) (bytes : each-byte word-byte u ≡ true) (short : length u ≤ 8)
-  (e : drop i text ≡ u ++ z) (a : Apart z) where
+    (e : drop i text ≡ u ++ z) (a : Apart z) where
   pub word-done : (k : Option Keyword) (o : Option ℕ) → key-of u ≡ k → find u ≡ o → word-at find text i ≡ some-token k o i (i + length u)
   unfolding word-at
   word-done k o p q =

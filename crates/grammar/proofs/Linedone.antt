@@ -59,8 +59,17 @@ digit-unlike b c h l = ne-eqb c b (λ e. let d : digit c ≡ true = rw e h in le
 key-digit : (b : ℕ) (u : List ℕ) → digit b ≡ true → key-of (b ∷ u) ≡ None
 unfolding key-of same-bytes
 key-digit b u h =
-    rw (digit-unlike b 111 h (omega arith), digit-unlike b 99 h (omega arith), digit-unlike b 102 h (omega arith), digit-unlike b 98 h (omega arith), digit-unlike b 105 h (omega arith),
-      digit-unlike b 101 h (omega arith), digit-unlike b 119 h (omega arith), digit-unlike b 108 h (omega arith), digit-unlike b 103 h (omega arith)) refl
+    rw (
+      digit-unlike b 111 h (omega arith),
+      digit-unlike b 99 h (omega arith),
+      digit-unlike b 102 h (omega arith),
+      digit-unlike b 98 h (omega arith),
+      digit-unlike b 105 h (omega arith),
+      digit-unlike b 101 h (omega arith),
+      digit-unlike b 119 h (omega arith),
+      digit-unlike b 108 h (omega arith),
+      digit-unlike b 103 h (omega arith),
+    ) refl
 
 key-number : (a : ℕ) (u : List ℕ) → Is-number a u → key-of u ≡ None
 unfolding each-byte

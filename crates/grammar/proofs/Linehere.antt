@@ -51,7 +51,7 @@ module _ (find : List ℕ → Option ℕ) (text : List ℕ) (N : ℕ → List �
       rw (bytes-done text i (codes " = ") _ refl e, no-cell text (i + 3) (10 ∷ z) refl N named (s .0) u (s .1) x) (with-done (Put k (i + 3)) (i + 3) u z s h x)
 
   read-done : (f : Bool) (w : List ℕ) (k i : ℕ) (u z : List ℕ) → cell-kind (key-of w) ≡ Some f → each-byte word-byte w ≡ true → Some-expr N o text u → length u ≤ 1024
-    → drop i text ≡ codes " = " ++ (w ++ (32 ∷ (u ++ (10 ∷ z)))) → assign-at find text k i ≡ lined (Read f k ((i + 3) + (length w + 1))) (((i + 3) + (length w + 1)) + (length u + 1))
+      → drop i text ≡ codes " = " ++ (w ++ (32 ∷ (u ++ (10 ∷ z)))) → assign-at find text k i ≡ lined (Read f k ((i + 3) + (length w + 1))) (((i + 3) + (length w + 1)) + (length u + 1))
   unfolding assign-at each-byte
   read-done f w k i u z c b s h e =
       let x : drop (i + 3) text ≡ w ++ (32 ∷ (u ++ (10 ∷ z))) = past text i (codes " = ") _ e in
@@ -60,20 +60,20 @@ module _ (find : List ℕ → Option ℕ) (text : List ℕ) (N : ℕ → List �
       let q : cell-kind (key-at text (i + 3)) ≡ Some f = ap (λ t. cell-kind (key-of t)) (part-here word-byte text (i + 3) w _ b refl x) ∙ c in
       let r : ((i + 3) + length w) + 1 ≡ (i + 3) + (length w + 1) = omega arith in
       rw (bytes-done text i (codes " = ") _ refl e, q, run-here word-byte text (i + 3) w _ b refl x, bytes-done text ((i + 3) + length w) (32 ∷ []) _ refl y, r)
-        (with-done (Read f k ((i + 3) + (length w + 1))) ((i + 3) + (length w + 1)) u z s h (rw r at v))
+      (with-done (Read f k ((i + 3) + (length w + 1))) ((i + 3) + (length w + 1)) u z s h (rw r at v))
 
   write-done : (f : Bool) (i : ℕ) (u w z : List ℕ) → Some-expr N o text u → Some-expr N o text w → length u ≤ 1024 → length w ≤ 1024
-    → drop i text ≡ 32 ∷ (u ++ (codes " = " ++ (w ++ (10 ∷ z)))) → write-at find text f i ≡ lined (Write f (i + 1) (((i + 1) + length u) + 3)) ((((i + 1) + length u) + 3) + (length w + 1))
+      → drop i text ≡ 32 ∷ (u ++ (codes " = " ++ (w ++ (10 ∷ z)))) → write-at find text f i ≡ lined (Write f (i + 1) (((i + 1) + length u) + 3)) ((((i + 1) + length u) + 3) + (length w + 1))
   unfolding write-at each-byte
   write-done f i u w z s t h k e =
       let x : drop (i + 1) text ≡ u ++ (codes " = " ++ (w ++ (10 ∷ z))) = past-byte text i 32 _ e in
       let y : drop ((i + 1) + length u) text ≡ codes " = " ++ (w ++ (10 ∷ z)) = past text (i + 1) u _ x in
       let v : drop (((i + 1) + length u) + 3) text ≡ w ++ (10 ∷ z) = past text ((i + 1) + length u) (codes " = ") _ y in
       rw (bytes-done text i (32 ∷ []) _ refl e, reads u s h (i + 1) _ x refl, bytes-done text ((i + 1) + length u) (codes " = ") _ refl y)
-        (with-done (Write f (i + 1) (((i + 1) + length u) + 3)) (((i + 1) + length u) + 3) w z t k v)
+      (with-done (Write f (i + 1) (((i + 1) + length u) + 3)) (((i + 1) + length u) + 3) w z t k v)
 
   head-done : (l : ℕ → Line) (i : ℕ) (u z : List ℕ) → Some-expr N o text u → length u ≤ 1024 → drop i text ≡ 32 ∷ (u ++ (10 ∷ z))
-    → and-then (bytes-at text (codes " ") i) (λ e. with-expr find text (l e) e) ≡ lined (l (i + 1)) ((i + 1) + (length u + 1))
+      → and-then (bytes-at text (codes " ") i) (λ e. with-expr find text (l e) e) ≡ lined (l (i + 1)) ((i + 1) + (length u + 1))
   unfolding each-byte
   head-done l i u z s h e = rw (bytes-done text i (32 ∷ []) _ refl e) (with-done (l (i + 1)) (i + 1) u z s h (past-byte text i 32 _ e))
 
@@ -85,7 +85,7 @@ module _ (find : List ℕ → Option ℕ) (text : List ℕ) (N : ℕ → List �
       rw (word-done find text i a z (h .some) (h .begins) (h .bytes) (h .short) e p None (Some k) (key-free a (h .free)) (found k a n)) refl
 
   key-first : (k : Keyword) (i : ℕ) (z : List ℕ) → 1 ≤ length (written k) → letter (getD (written k) 0 0) ≡ true → each-byte word-byte (written k) ≡ true → length (written k) ≤ 8 → Apart z
-    → drop i text ≡ written k ++ z → bare-at find text i ≡ by-key find text k (i + length (written k))
+      → drop i text ≡ written k ++ z → bare-at find text i ≡ by-key find text k (i + length (written k))
   unfolding bare-at
   key-first k i z s b y l p e = rw (word-done find text i (written k) z s b y l e p (Some k) (find (written k)) (key-written k) refl) refl
 
@@ -97,28 +97,28 @@ module _ (find : List ℕ → Option ℕ) (text : List ℕ) (N : ℕ → List �
   unfolding Line-here by-key each-byte
   line-done i (Put k x) n (a, u, z, nk, s, ex, en, e) h =
       to-line i (Put k x) n h (name-first k i a (codes " = " ++ (u ++ (10 ∷ z))) nk refl e ∙ assign-done k (i + length a) u z s (omega arith) (past text i a _ e)
-        ∙ (let q : (i + length a) + 3 ≡ x = omega arith in let r : ((i + length a) + 3) + (length u + 1) ≡ n = omega arith in rw (r, q) refl))
+      ∙ (let q : (i + length a) + 3 ≡ x = omega arith in let r : ((i + length a) + 3) + (length u + 1) ≡ n = omega arith in rw (r, q) refl))
   line-done i (Read false k x) n (a, u, z, nk, s, ex, en, e) h =
       to-line i (Read false k x) n h (name-first k i a (codes " = cell " ++ (u ++ (10 ∷ z))) nk refl e ∙ read-done false (codes "cell") k (i + length a) u z (ap cell-kind (key-written kw.Cell)) refl s (omega arith) (past text i a _ e)
-        ∙ (let q : ((i + length a) + 3) + 5 ≡ x = omega arith in let r : (((i + length a) + 3) + 5) + (length u + 1) ≡ n = omega arith in rw (r, q) refl))
+      ∙ (let q : ((i + length a) + 3) + 5 ≡ x = omega arith in let r : (((i + length a) + 3) + 5) + (length u + 1) ≡ n = omega arith in rw (r, q) refl))
   line-done i (Read true k x) n (a, u, z, nk, s, ex, en, e) h =
       to-line i (Read true k x) n h (name-first k i a (codes " = field " ++ (u ++ (10 ∷ z))) nk refl e ∙ read-done true (codes "field") k (i + length a) u z (ap cell-kind (key-written kw.Field)) refl s (omega arith) (past text i a _ e)
-        ∙ (let q : ((i + length a) + 3) + 6 ≡ x = omega arith in let r : (((i + length a) + 3) + 6) + (length u + 1) ≡ n = omega arith in rw (r, q) refl))
+      ∙ (let q : ((i + length a) + 3) + 6 ≡ x = omega arith in let r : (((i + length a) + 3) + 6) + (length u + 1) ≡ n = omega arith in rw (r, q) refl))
   line-done i (Write false p v) n (u, w, z, s, t, ep, ev, en, e) h =
       to-line i (Write false p v) n h (key-first kw.Cell i _ (omega arith) refl refl (omega arith) refl e ∙ write-done false (i + 4) u w z s t (omega arith) (omega arith) (past text i (codes "cell") _ e)
-        ∙ (let a : (i + 4) + 1 ≡ p = omega arith in let b : ((((i + 4) + 1) + length u) + 3) + (length w + 1) ≡ n = omega arith in let c : (((i + 4) + 1) + length u) + 3 ≡ v = omega arith in rw (b, c, a) refl))
+      ∙ (let a : (i + 4) + 1 ≡ p = omega arith in let b : ((((i + 4) + 1) + length u) + 3) + (length w + 1) ≡ n = omega arith in let c : (((i + 4) + 1) + length u) + 3 ≡ v = omega arith in rw (b, c, a) refl))
   line-done i (Write true p v) n (u, w, z, s, t, ep, ev, en, e) h =
       to-line i (Write true p v) n h (key-first kw.Field i _ (omega arith) refl refl (omega arith) refl e ∙ write-done true (i + 5) u w z s t (omega arith) (omega arith) (past text i (codes "field") _ e)
-        ∙ (let a : (i + 5) + 1 ≡ p = omega arith in let b : ((((i + 5) + 1) + length u) + 3) + (length w + 1) ≡ n = omega arith in let c : (((i + 5) + 1) + length u) + 3 ≡ v = omega arith in rw (b, c, a) refl))
+      ∙ (let a : (i + 5) + 1 ≡ p = omega arith in let b : ((((i + 5) + 1) + length u) + 3) + (length w + 1) ≡ n = omega arith in let c : (((i + 5) + 1) + length u) + 3 ≡ v = omega arith in rw (b, c, a) refl))
   line-done i Barrier n (z, en, e) h =
       to-line i Barrier n h (key-first kw.Barrier i _ (omega arith) refl refl (omega arith) refl e ∙ closed-done Barrier (i + 7) z (past text i (codes "barrier") _ e) ∙ ap (λ m. lined Barrier m) (omega arith))
   line-done i (If x) n (u, z, s, ex, en, e) h =
       to-line i (If x) n h (key-first kw.If i _ (omega arith) refl refl (omega arith) refl e ∙ head-done If (i + 2) u z s (omega arith) (past text i (codes "if") _ e)
-        ∙ (let q : (i + 2) + 1 ≡ x = omega arith in let r : ((i + 2) + 1) + (length u + 1) ≡ n = omega arith in rw (r, q) refl))
+      ∙ (let q : (i + 2) + 1 ≡ x = omega arith in let r : ((i + 2) + 1) + (length u + 1) ≡ n = omega arith in rw (r, q) refl))
   line-done i Else n (z, en, e) h =
       to-line i Else n h (key-first kw.Else i _ (omega arith) refl refl (omega arith) refl e ∙ closed-done Else (i + 4) z (past text i (codes "else") _ e) ∙ ap (λ m. lined Else m) (omega arith))
   line-done i End n (z, en, e) h =
       to-line i End n h (key-first kw.End i _ (omega arith) refl refl (omega arith) refl e ∙ closed-done End (i + 3) z (past text i (codes "end") _ e) ∙ ap (λ m. lined End m) (omega arith))
   line-done i (While x) n (u, z, s, ex, en, e) h =
       to-line i (While x) n h (key-first kw.While i _ (omega arith) refl refl (omega arith) refl e ∙ head-done While (i + 5) u z s (omega arith) (past text i (codes "while") _ e)
-        ∙ (let q : (i + 5) + 1 ≡ x = omega arith in let r : ((i + 5) + 1) + (length u + 1) ≡ n = omega arith in rw (r, q) refl))
+      ∙ (let q : (i + 5) + 1 ≡ x = omega arith in let r : ((i + 5) + 1) + (length u + 1) ≡ n = omega arith in rw (r, q) refl))

@@ -52,7 +52,7 @@ module _ (find : List ℕ → Option ℕ) (text : List ℕ) (i : ℕ) where
   assign-ok k j o h e = ap (λ m. assign-by find text k j m) e ∙ then-ok (bytes-at text (codes " = ") i) (λ m. assign-by find text k m (cell-kind (key-at text m))) j h
 
   pub assign-cell : (k j w : ℕ) (f : Bool) → Ok j ≡ bytes-at text (codes " = ") i → Some f ≡ cell-kind (key-at text j) → Word-end text j w
-    → and-then (bytes-at text (codes " ") w) (λ e. with-expr find text (line.Read f k e) e) ≡ assign-at find text k i
+      → and-then (bytes-at text (codes " ") w) (λ e. with-expr find text (line.Read f k e) e) ≡ assign-at find text k i
   assign-cell k j w f h e we = rw (word-end-run text j w we) (assign-ok k j (Some f) h e)
 
   pub write-err : (f : Bool) (e : Refusal) → Err e ≡ bytes-at text (codes " ") i → Err e ≡ write-at find text f i
@@ -60,43 +60,54 @@ module _ (find : List ℕ → Option ℕ) (text : List ℕ) (i : ℕ) where
   write-err f e h = then-err (bytes-at text (codes " ") i) _ e h
 
   pub write-ok : (f : Bool) (p : ℕ) → Ok p ≡ bytes-at text (codes " ") i
-    → and-then (expr-at find text 1024 p) (λ j. and-then (bytes-at text (codes " = ") j) (λ v. with-expr find text (line.Write f p v) v)) ≡ write-at find text f i
+      → and-then (expr-at find text 1024 p) (λ j. and-then (bytes-at text (codes " = ") j) (λ v. with-expr find text (line.Write f p v) v)) ≡ write-at find text f i
   unfolding write-at
   write-ok f p h = then-ok (bytes-at text (codes " ") i) (λ m. and-then (expr-at find text 1024 m) (λ j. and-then (bytes-at text (codes " = ") j) (λ v. with-expr find text (line.Write f m v) v))) p h
 
   pub key-cell : (k : Keyword) → k ≡ Cell → write-at find text false i ≡ by-key find text k i
   unfolding by-key
   key-cell k e = rw e refl
+
   pub key-field : (k : Keyword) → k ≡ Field → write-at find text true i ≡ by-key find text k i
   unfolding by-key
   key-field k e = rw e refl
+
   pub key-barrier : (k : Keyword) → k ≡ Barrier → closed text line.Barrier i ≡ by-key find text k i
   unfolding by-key
   key-barrier k e = rw e refl
+
   pub key-else : (k : Keyword) → k ≡ Else → closed text line.Else i ≡ by-key find text k i
   unfolding by-key
   key-else k e = rw e refl
+
   pub key-end : (k : Keyword) → k ≡ End → closed text line.End i ≡ by-key find text k i
   unfolding by-key
   key-end k e = rw e refl
+
   pub key-if : (k : Keyword) → k ≡ If → and-then (bytes-at text (codes " ") i) (λ j. with-expr find text (line.If j) j) ≡ by-key find text k i
   unfolding by-key
   key-if k e = rw e refl
+
   pub key-while : (k : Keyword) → k ≡ While → and-then (bytes-at text (codes " ") i) (λ j. with-expr find text (line.While j) j) ≡ by-key find text k i
   unfolding by-key
   key-while k e = rw e refl
+
   pub key-own : (k : Keyword) → k ≡ Own → Err (Shape i) ≡ by-key find text k i
   unfolding by-key
   key-own k e = rw e refl
+
   pub key-cells : (k : Keyword) → k ≡ Cells → Err (Shape i) ≡ by-key find text k i
   unfolding by-key
   key-cells k e = rw e refl
+
   pub key-lane : (k : Keyword) → k ≡ Lane → Err (Shape i) ≡ by-key find text k i
   unfolding by-key
   key-lane k e = rw e refl
+
   pub key-group : (k : Keyword) → k ≡ Group → Err (Shape i) ≡ by-key find text k i
   unfolding by-key
   key-group k e = rw e refl
+
   pub key-lanes : (k : Keyword) → k ≡ Lanes → Err (Shape i) ≡ by-key find text k i
   unfolding by-key
   key-lanes k e = rw e refl

@@ -23,12 +23,13 @@ pub place-named : (ns : List (List ℕ)) (u : List ℕ) (k : ℕ) → place-in n
 unfolding place-in
 place-named [] u k e = let z : _≡_ {A = ℕ} 0 1 = cc in absurd (omega arith)
 place-named (n ∷ ns) u k e =
-    elim (cond-cases (same-bytes n u) (Some 0) (one-more (place-in ns u)) (Some k) e)
-      [ inl p ↦ let q : 0 ≡ k = cc in rw (sym q) (omega arith, sym (same-decides n u .0 (p .0)))
+    elim (cond-cases (same-bytes n u) (Some 0) (one-more (place-in ns u)) (Some k) e) [
+      | inl p ↦ let q : 0 ≡ k = cc in rw (sym q) (omega arith, sym (same-decides n u .0 (p .0)))
       | inr p ↦
-        let m = one-more-some (place-in ns u) k (p .1) in
-        let r = place-named ns u (m .0) (m .1) in
-        rw (m .2) (omega (arith, r .0), r .1) ]
+          let m = one-more-some (place-in ns u) k (p .1) in
+          let r = place-named ns u (m .0) (m .1) in
+          rw (m .2) (omega (arith, r .0), r .1)
+    ]
 
 pub named-place : (ns : List (List ℕ)) → Distinct ns → (k : ℕ) (u : List ℕ) → Named ns k u → place-in ns u ≡ Some k
 unfolding Distinct

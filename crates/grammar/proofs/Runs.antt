@@ -39,7 +39,6 @@ pub nonzero : (f : ℕ → Bool) (b : ℕ) → f 0 ≡ false → f b ≡ true �
 nonzero f zero p q = let z : _≡_ {A = Bool} true false = sym q ∙ p in grind arith
 nonzero f (suc b) p q = omega arith
 
-
 sat-decimal : (ds : List ℕ) (a b : ℕ) → min a 4294967296 ≡ min b 4294967296 → min (decimal a ds) 4294967296 ≡ min (decimal b ds) 4294967296
 unfolding decimal
 sat-decimal [] a b h = h
@@ -50,10 +49,10 @@ unfolding decimal
 digits-more a b bs h = rw (run-step digit b bs h)
 
 pub number-more : (t : List ℕ) (j a v : ℕ) → j < length t → digit (getD t j 0) ≡ true → v ≡ min (a * 10 + (getD t j 0 - 48)) 4294967296
-  → min (decimal v (take (run-of digit (drop (j + 1) t)) (drop (j + 1) t))) 4294967296 ≡ min (decimal a (take (run-of digit (drop j t)) (drop j t))) 4294967296
+    → min (decimal v (take (run-of digit (drop (j + 1) t)) (drop (j + 1) t))) 4294967296 ≡ min (decimal a (take (run-of digit (drop j t)) (drop j t))) 4294967296
 number-more t j a v lt h e =
     let p : decimal a (take (run-of digit (drop j t)) (drop j t)) ≡ decimal (a * 10 + (getD t j 0 - 48)) (take (run-of digit (drop (j + 1) t)) (drop (j + 1) t))
-          = at-drop-more (λ l. decimal a (take (run-of digit l) l)) t j 0 lt ∙ digits-more a (getD t j 0) (drop (j + 1) t) h in
+    = at-drop-more (λ l. decimal a (take (run-of digit l) l)) t j 0 lt ∙ digits-more a (getD t j 0) (drop (j + 1) t) h in
     rw p (sat-decimal (take (run-of digit (drop (j + 1) t)) (drop (j + 1) t)) v (a * 10 + (getD t j 0 - 48)) (omega arith))
 
 pub number-none : (t : List ℕ) (j a : ℕ) → digit (getD t j 0) ≡ false → decimal a (take (run-of digit (drop j t)) (drop j t)) ≡ a

@@ -56,15 +56,16 @@ pub bytes-sound : (text : List ℕ) (w : List ℕ) (i j : ℕ) → bytes-at text
 unfolding bytes-at
 bytes-sound text [] i j e = let q : i ≡ j = same-ok i j e in (ap (λ m. drop m text) q, omega arith)
 bytes-sound text (b ∷ w) i j e =
-    elim (cond-cases (eqb (getD text i 0) b && not (eqb b 0)) (bytes-at text w (i + 1)) (Err (Shape i)) (Ok j) e)
-      [ inl p ↦
-        let q = and-parts (eqb (getD text i 0) b) (not (eqb b 0)) (p .0) in
-        let s : getD text i 0 ≡ b = eqb-true (getD text i 0) b (q .0) in
-        let n : eqb b 0 ≡ false = not-true (eqb b 0) (q .1) in
-        let t : (getD text i 0 ≡ 0 → ⊥) = λ z. eqb-false b 0 n (sym s ∙ z) in
-        let r = bytes-sound text w (i + 1) j (p .1) in
-        (peel text i t ∙ ap (λ m. m ∷ drop (i + 1) text) s ∙ ap (λ m. b ∷ m) (r .0), omega (arith, r .1))
-      | inr p ↦ absurd (not-err (Shape i) j (p .1)) ]
+    elim (cond-cases (eqb (getD text i 0) b && not (eqb b 0)) (bytes-at text w (i + 1)) (Err (Shape i)) (Ok j) e) [
+      | inl p ↦
+          let q = and-parts (eqb (getD text i 0) b) (not (eqb b 0)) (p .0) in
+          let s : getD text i 0 ≡ b = eqb-true (getD text i 0) b (q .0) in
+          let n : eqb b 0 ≡ false = not-true (eqb b 0) (q .1) in
+          let t : (getD text i 0 ≡ 0 → ⊥) = λ z. eqb-false b 0 n (sym s ∙ z) in
+          let r = bytes-sound text w (i + 1) j (p .1) in
+          (peel text i t ∙ ap (λ m. m ∷ drop (i + 1) text) s ∙ ap (λ m. b ∷ m) (r .0), omega (arith, r .1))
+      | inr p ↦ absurd (not-err (Shape i) j (p .1))
+    ]
 
 -- a run of bytes, and what is behind it
 pub run-splits : (f : ℕ → Bool) (text : List ℕ) (i : ℕ) → drop i text ≡ take (run-of f (drop i text)) (drop i text) ++ drop (i + run-of f (drop i text)) text
@@ -129,17 +130,24 @@ letter-word b h = grind (arith, tells)
 
 module _ (find : List ℕ → Option ℕ) (text : List ℕ) where
   worded : (i : ℕ) (t : Token) → letter (getD text i 0) ≡ true → leb 9 (run-of word-byte (drop i text)) ≡ false
-    → some-token (key-at text i) (find (word-part text i)) i (i + run-of word-byte (drop i text)) ≡ Ok t → Worded find text i t
+      → some-token (key-at text i) (find (word-part text i)) i (i + run-of word-byte (drop i text)) ≡ Ok t → Worded find text i t
   worded i t l s e =
       let q = token-says find (word-part text i) (key-at text i) (find (word-part text i)) i (i + run-of word-byte (drop i text)) t refl refl e in
       let n : 1 ≤ run-of word-byte (drop i text) = run-some word-byte text i refl (letter-word (getD text i 0) l) in
       let m : length (word-part text i) ≡ run-of word-byte (drop i text) = run-length word-byte text i in
-      record { here = run-splits word-byte text i ∙ ap (λ m. word-part text i ++ drop m text) (sym (q .0)); end-is = omega (arith, q .0); says = q .1; some = omega arith;
-        short = omega (arith, leb-false 9 (run-of word-byte (drop i text)) s); begins = ap letter (run-first word-byte text i n) ∙ l }
+      record {
+        here = run-splits word-byte text i ∙ ap (λ m. word-part text i ++ drop m text) (sym (q .0));
+        end-is = omega (arith, q .0);
+        says = q .1;
+        some = omega arith;
+        short = omega (arith, leb-false 9 (run-of word-byte (drop i text)) s);
+        begins = ap letter (run-first word-byte text i n) ∙ l;
+      }
 
   pub word-sound : (i : ℕ) (t : Token) → word-at find text i ≡ Ok t → Worded find text i t
   unfolding word-at
   word-sound i t e =
-      elim (cond-cases (letter (getD text i 0)) _ _ (Ok t) e)
-        [ inl p ↦ elim (cond-cases (leb 9 (run-of word-byte (drop i text))) _ _ (Ok t) (p .1)) [ inl q ↦ absurd (not-err (Shape (i + 8)) t (q .1)) | inr q ↦ worded i t (p .0) (q .0) (q .1) ]
-        | inr p ↦ absurd (not-err (Shape i) t (p .1)) ]
+      elim (cond-cases (letter (getD text i 0)) _ _ (Ok t) e) [
+        | inl p ↦ elim (cond-cases (leb 9 (run-of word-byte (drop i text))) _ _ (Ok t) (p .1)) [ inl q ↦ absurd (not-err (Shape (i + 8)) t (q .1)) | inr q ↦ worded i t (p .0) (q .0) (q .1) ]
+        | inr p ↦ absurd (not-err (Shape i) t (p .1))
+      ]

@@ -75,18 +75,19 @@ module _ (find : List ℕ → Option ℕ) (text : List ℕ) (N : ℕ → List �
       record { spelling = x .spelling; is = x .is; line-is = c .0; next-is = omega (arith, c .1, x .end-is); here = x .here ∙ ap (λ t. x .spelling ++ t) (c .2) }
 
   assign-cell : (k i j : ℕ) (f : Bool) (r : Lined) → cell-kind (key-at text j) ≡ Some f → j ≡ i + 3
-    → and-then (bytes-at text (codes " ") (j + run-of word-byte (drop j text))) (λ e. with-expr find text (Read f k e) e) ≡ Ok r
-    → (w : List ℕ) × (((w ≡ codes "cell") × (f ≡ false)) ⊎ ((w ≡ codes "field") × (f ≡ true))) × (drop j text ≡ w ++ (32 ∷ drop (j + (length w + 1)) text)) × Ended (Read f k (j + (length w + 1))) (j + (length w + 1)) r
+      → and-then (bytes-at text (codes " ") (j + run-of word-byte (drop j text))) (λ e. with-expr find text (Read f k e) e) ≡ Ok r
+      → (w : List ℕ) × (((w ≡ codes "cell") × (f ≡ false)) ⊎ ((w ≡ codes "field") × (f ≡ true))) × (drop j text ≡ w ++ (32 ∷ drop (j + (length w + 1)) text)) × Ended (Read f k (j + (length w + 1))) (j + (length w + 1)) r
   assign-cell k i j f r q _ e =
       let p = then-parts (bytes-at text (codes " ") (j + run-of word-byte (drop j text))) _ r e in
       let s = bytes-sound text (codes " ") (j + run-of word-byte (drop j text)) (p .0) (p .1) in
       let w : List ℕ = word-part text j in
       let n : p .0 ≡ j + (length w + 1) = omega (arith, s .1, run-length word-byte text j) in
-      let x = with-sound (Read f k (p .0)) (p .0) r (p .2) in
-      (w,
-       elim (kind-cell (key-at text j) f q) [ inl h ↦ inl (key-sound w kw.Cell (h .0), h .1) | inr h ↦ inr (key-sound w kw.Field (h .0), h .1) ],
-       run-splits word-byte text j ∙ ap (λ t. w ++ t) (s .0) ∙ ap (λ m. w ++ (32 ∷ drop m text)) n,
-       rw n at x)
+      let x = with-sound (Read f k (p .0)) (p .0) r (p .2) in (
+        w,
+        elim (kind-cell (key-at text j) f q) [ inl h ↦ inl (key-sound w kw.Cell (h .0), h .1) | inr h ↦ inr (key-sound w kw.Field (h .0), h .1) ],
+        run-splits word-byte text j ∙ ap (λ t. w ++ t) (s .0) ∙ ap (λ m. w ++ (32 ∷ drop m text)) n,
+        rw n at x,
+      )
 
   -- the line that begins with the name a
   module _ (i k : ℕ) (a : List ℕ) (j : ℕ) (nk : N k a) (ha : drop i text ≡ a ++ drop j text) (ej : j ≡ i + length a) where
@@ -109,13 +110,14 @@ module _ (find : List ℕ → Option ℕ) (text : List ℕ) (N : ℕ → List �
     assign-by-sound m None r em hm q e = put-here r m em hm (with-sound (Put k m) m r e)
     assign-by-sound m (Some f) r em hm q e =
         let x = assign-cell k j m f r q em e in
-        elim (x .1)
-          [ inl p ↦
-            let n : m + (length (x .0) + 1) ≡ m + 5 = rw (p .0) refl in
-            read-cell r (m + 5) f (p .1) (omega arith) (hm ∙ ap (λ t. codes " = " ++ t) (x .2 ∙ ap (λ t. t ++ (32 ∷ drop (m + (length (x .0) + 1)) text)) (p .0) ∙ ap (λ t. codes "cell" ++ (32 ∷ drop t text)) n)) (rw n at (x .3))
+        elim (x .1) [
+          | inl p ↦
+              let n : m + (length (x .0) + 1) ≡ m + 5 = rw (p .0) refl in
+              read-cell r (m + 5) f (p .1) (omega arith) (hm ∙ ap (λ t. codes " = " ++ t) (x .2 ∙ ap (λ t. t ++ (32 ∷ drop (m + (length (x .0) + 1)) text)) (p .0) ∙ ap (λ t. codes "cell" ++ (32 ∷ drop t text)) n)) (rw n at (x .3))
           | inr p ↦
-            let n : m + (length (x .0) + 1) ≡ m + 6 = rw (p .0) refl in
-            read-field r (m + 6) f (p .1) (omega arith) (hm ∙ ap (λ t. codes " = " ++ t) (x .2 ∙ ap (λ t. t ++ (32 ∷ drop (m + (length (x .0) + 1)) text)) (p .0) ∙ ap (λ t. codes "field" ++ (32 ∷ drop t text)) n)) (rw n at (x .3)) ]
+              let n : m + (length (x .0) + 1) ≡ m + 6 = rw (p .0) refl in
+              read-field r (m + 6) f (p .1) (omega arith) (hm ∙ ap (λ t. codes " = " ++ t) (x .2 ∙ ap (λ t. t ++ (32 ∷ drop (m + (length (x .0) + 1)) text)) (p .0) ∙ ap (λ t. codes "field" ++ (32 ∷ drop t text)) n)) (rw n at (x .3))
+        ]
 
     assign-sound : (r : Lined) → assign-at find text k j ≡ Ok r → Line-here N o text i (r .line) (r .next)
     unfolding assign-at
@@ -146,9 +148,15 @@ module _ (find : List ℕ → Option ℕ) (text : List ℕ) (N : ℕ → List �
       let z = with-sound (Write f (p .0) (t .0)) (t .0) r (t .2) in
       let a : p .0 ≡ j + 1 = s .1 in
       let b : t .0 ≡ (j + 1) + (length (x .spelling) + 3) = omega (arith, y .1, x .end-is, s .1) in
-      record { first = x .spelling; second = z .spelling; first-is = x .is; second-is = z .is;
-        line-is = z .line-is ∙ ap (λ m. Write f m (t .0)) a ∙ ap (λ m. Write f (j + 1) m) b; next-is = z .next-is ∙ ap (λ m. m + (length (z .spelling) + 1)) b;
-        here = s .0 ∙ ap (λ m. 32 ∷ m) (x .here ∙ ap (λ m. x .spelling ++ m) (y .0 ∙ ap (λ m. codes " = " ++ m) (z .here))) }
+      record {
+        first = x .spelling;
+        second = z .spelling;
+        first-is = x .is;
+        second-is = z .is;
+        line-is = z .line-is ∙ ap (λ m. Write f m (t .0)) a ∙ ap (λ m. Write f (j + 1) m) b;
+        next-is = z .next-is ∙ ap (λ m. m + (length (z .spelling) + 1)) b;
+        here = s .0 ∙ ap (λ m. 32 ∷ m) (x .here ∙ ap (λ m. x .spelling ++ m) (y .0 ∙ ap (λ m. codes " = " ++ m) (z .here)));
+      }
 
   record Headed (l : ℕ → Line) (j : ℕ) (r : Lined) : Type 0 where
     spelling : List ℕ
@@ -162,8 +170,13 @@ module _ (find : List ℕ → Option ℕ) (text : List ℕ) (N : ℕ → List �
       let p = then-parts (bytes-at text (codes " ") j) _ r e in
       let s = bytes-sound text (codes " ") j (p .0) (p .1) in
       let x = with-sound (l (p .0)) (p .0) r (p .2) in
-      record { spelling = x .spelling; is = x .is; line-is = x .line-is ∙ ap l (s .1); next-is = x .next-is ∙ ap (λ m. m + (length (x .spelling) + 1)) (s .1);
-        here = s .0 ∙ ap (λ m. 32 ∷ m) (x .here) }
+      record {
+        spelling = x .spelling;
+        is = x .is;
+        line-is = x .line-is ∙ ap l (s .1);
+        next-is = x .next-is ∙ ap (λ m. m + (length (x .spelling) + 1)) (s .1);
+        here = s .0 ∙ ap (λ m. 32 ∷ m) (x .here);
+      }
 
   key-line : (k : Keyword) (i j : ℕ) (r : Lined) → drop i text ≡ written k ++ drop j text → j ≡ i + length (written k) → by-key find text k j ≡ Ok r → Line-here N o text i (r .line) (r .next)
   unfolding by-key Line-here
@@ -203,7 +216,7 @@ module _ (find : List ℕ → Option ℕ) (text : List ℕ) (N : ℕ → List �
   within-ok : (i : ℕ) (r : Result Lined Refusal) (l : Lined) → within-line i r ≡ Ok l → (r ≡ Ok l) × (l .next - i ≤ 1025)
   within-ok i (Ok m) l e =
       elim (cond-cases (ltb 1025 (m .next - i)) _ _ (Ok l) e)
-        [ inl p ↦ absurd (not-err (Long (i + 1024)) l (p .1)) | inr p ↦ let q : m ≡ l = same-ok m l (p .1) in (ap (λ x. Ok x) q, rw (sym q) (ltb-false 1025 (m .next - i) (p .0))) ]
+      [ inl p ↦ absurd (not-err (Long (i + 1024)) l (p .1)) | inr p ↦ let q : m ≡ l = same-ok m l (p .1) in (ap (λ x. Ok x) q, rw (sym q) (ltb-false 1025 (m .next - i) (p .0))) ]
   within-ok i (Err d) l e =
       elim (cond-cases (ltb 1024 (place-of d - i)) _ _ (Ok l) e) [ inl p ↦ absurd (not-err (Long (i + 1024)) l (p .1)) | inr p ↦ absurd (not-err d l (p .1)) ]
 

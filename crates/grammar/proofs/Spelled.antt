@@ -67,7 +67,7 @@ module _ (find : List ℕ → Option ℕ) (text : List ℕ) where
       rw (byte-of text i u z (h .some) e, d, v, lt-ltb a 4294967296 l, run-here digit text i u z (h .bytes) q e) refl
 
   word-done-atom : (k : Option Keyword) (o : Option ℕ) (u : List ℕ) → 1 ≤ length u → letter (getD u 0 0) ≡ true → each-byte word-byte u ≡ true → length u ≤ 8 → key-of u ≡ k → find u ≡ o
-    → ((i j : ℕ) → and-then (some-token k o i j) (λ t. word-atom (t .word) (t .end)) ≡ Ok j) → Reads-atom u
+      → ((i j : ℕ) → and-then (some-token k o i j) (λ t. word-atom (t .word) (t .end)) ≡ Ok j) → Reads-atom u
   unfolding atom-at
   word-done-atom k o u s b y l p q ok i z e a =
       rw (byte-of text i u z s e, digit-not-letter (getD u 0 0) b, word-done find text i u z s b y l e a k o p q) (ok i (i + length u))
@@ -113,7 +113,7 @@ module _ (find : List ℕ → Option ℕ) (text : List ℕ) where
       let x4 : drop ((((i + 1) + length u) + 3) + length v) text ≡ 41 ∷ z = past text (((i + 1) + length u) + 3) v _ x3 in
       let len : length (infix-of u op v) ≡ 1 + (length u + (3 + (length v + 1))) = omega (arith, length-append u (32 ∷ op ∷ 32 ∷ (v ++ (41 ∷ []))), length-append v (41 ∷ [])) in
       rw (first-byte text i 40 _ x0, ru (i + 1) _ x1 refl, operator-done ((i + 1) + length u) op _ o x2, rv (((i + 1) + length u) + 3) _ x3 refl)
-        (bytes-done text ((((i + 1) + length u) + 3) + length v) (41 ∷ []) z refl x4 ∙ ap (λ m. Ok m) (omega (arith, len)))
+      (bytes-done text ((((i + 1) + length u) + 3) + length v) (41 ∷ []) z refl x4 ∙ ap (λ m. Ok m) (omega (arith, len)))
 
   binary-n : (n m op : ℕ) (u v : List ℕ) → is-operator op ≡ true → suc m ≤ n → Reads-expr (n - 1) u → Reads-expr (n - 1) v → Reads-expr n (infix-of u op v)
   binary-n zero m op u v o h ru rv = absurd (omega arith)

@@ -96,9 +96,20 @@ key-written Lanes = refl
 key-none : (w : List ℕ) → ((k : Keyword) → w ≡ written k → ⊥) → key-of w ≡ None
 unfolding key-of
 key-none w h =
-    rw (same-not (codes "own") w (h Own), same-not (codes "cells") w (h Cells), same-not (codes "cell") w (h Cell), same-not (codes "field") w (h Field),
-      same-not (codes "barrier") w (h Barrier), same-not (codes "if") w (h If), same-not (codes "else") w (h Else), same-not (codes "end") w (h End),
-      same-not (codes "while") w (h While), same-not (codes "lane") w (h Lane), same-not (codes "group") w (h Group), same-not (codes "lanes") w (h Lanes))
+    rw (
+      same-not (codes "own") w (h Own),
+      same-not (codes "cells") w (h Cells),
+      same-not (codes "cell") w (h Cell),
+      same-not (codes "field") w (h Field),
+      same-not (codes "barrier") w (h Barrier),
+      same-not (codes "if") w (h If),
+      same-not (codes "else") w (h Else),
+      same-not (codes "end") w (h End),
+      same-not (codes "while") w (h While),
+      same-not (codes "lane") w (h Lane),
+      same-not (codes "group") w (h Group),
+      same-not (codes "lanes") w (h Lanes),
+    )
 
 pub key-is : (w : List ℕ) (r : Option Keyword) → Keyed w r → r ≡ key-of w
 key-is w None h = sym (key-none w h)
@@ -114,14 +125,16 @@ later n ns u k p = record { there = omega (arith, p .there); is = p .is; first =
 
 place-step : (n : List ℕ) (ns : List (List ℕ)) (u : List ℕ) (r : Option ℕ) → ((s : Option ℕ) → Place-of ns u s → s ≡ place-in ns u) → Place-of (n ∷ ns) u r → r ≡ place-in (n ∷ ns) u
 place-step n ns u None ih p =
-    elim (either-way (same-bytes n u))
-      [ inl e ↦ absurd (p 0 (omega arith) (same-decides n u .0 e))
-      | inr e ↦ rw (place-cons n ns u false e, ← ih None (λ k h. p (suc k) (omega arith))) refl ]
+    elim (either-way (same-bytes n u)) [
+      | inl e ↦ absurd (p 0 (omega arith) (same-decides n u .0 e))
+      | inr e ↦ rw (place-cons n ns u false e, ← ih None (λ k h. p (suc k) (omega arith))) refl
+    ]
 place-step n ns u (Some zero) ih p = rw (place-cons n ns u true (same-decides n u .1 (p .is))) refl
 place-step n ns u (Some (suc k)) ih p =
-    elim (either-way (same-bytes n u))
-      [ inl e ↦ absurd (p .first 0 (omega arith) (same-decides n u .0 e))
-      | inr e ↦ rw (place-cons n ns u false e, ← ih (Some k) (later n ns u k p)) refl ]
+    elim (either-way (same-bytes n u)) [
+      | inl e ↦ absurd (p .first 0 (omega arith) (same-decides n u .0 e))
+      | inr e ↦ rw (place-cons n ns u false e, ← ih (Some k) (later n ns u k p)) refl
+    ]
 
 place-nil : (u : List ℕ) (r : Option ℕ) → Place-of [] u r → r ≡ place-in [] u
 unfolding place-in
@@ -143,7 +156,7 @@ module _ (find : List ℕ → Option ℕ) (text : List ℕ) (i : ℕ) where
   word-long r h w l = rw (h, le-leb 9 (run-of word-byte (drop i text)) (omega (arith, word-end-run text i r w))) refl
 
   pub word-is : (r : ℕ) (k : Option Keyword) (o : Option ℕ) → letter (getD text i 0) ≡ true → Word-end text i r → r - i ≤ 8
-    → Keyed (take (r - i) (drop i text)) k → o ≡ find (take (r - i) (drop i text)) → some-token k o i r ≡ word-at find text i
+      → Keyed (take (r - i) (drop i text)) k → o ≡ find (take (r - i) (drop i text)) → some-token k o i r ≡ word-at find text i
   unfolding word-at
   word-is r k o h w l q e =
       let n : r - i ≡ run-of word-byte (drop i text) = omega (arith, word-end-run text i r w) in

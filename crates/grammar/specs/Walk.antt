@@ -61,9 +61,9 @@ some-token (Some k) o i end = Ok (record { word = word.Key k; end = end })
 unfoldable pub word-at : (List ℕ → Option ℕ) → List ℕ → ℕ → Result Token Refusal
 word-at find text i =
     cond (letter (getD text i 0))
-      (cond (leb 9 (run-of word-byte (drop i text))) (Err (Shape (i + 8)))
-        (some-token (key-at text i) (find (word-part text i)) i (i + run-of word-byte (drop i text))))
-      (Err (Shape i))
+    (cond (leb 9 (run-of word-byte (drop i text))) (Err (Shape (i + 8)))
+    (some-token (key-at text i) (find (word-part text i)) i (i + run-of word-byte (drop i text))))
+    (Err (Shape i))
 
 -- These bytes, one after the other.
 unfoldable pub bytes-at : List ℕ → List ℕ → ℕ → Result ℕ Refusal
@@ -96,7 +96,7 @@ number-part text i = decimal 0 (take (run-of digit (drop i text)) (drop i text))
 unfoldable pub atom-at : (List ℕ → Option ℕ) → List ℕ → ℕ → Result ℕ Refusal
 atom-at find text i =
     cond (digit (getD text i 0)) (cond (ltb (number-part text i) 4294967296) (Ok (i + run-of digit (drop i text))) (Err (Large i)))
-      (and-then (word-at find text i) (λ t. word-atom (t .word) (t .end)))
+    (and-then (word-at find text i) (λ t. word-atom (t .word) (t .end)))
 
 -- The bytes + - * / % < =.
 abbrev pub is-operator : ℕ → Bool
@@ -110,5 +110,5 @@ unfoldable pub expr-at : (List ℕ → Option ℕ) → List ℕ → ℕ → ℕ 
 expr-at find text zero i = cond (eqb (getD text i 0) 40) (Err (Long i)) (atom-at find text i)
 expr-at find text (suc n) i =
     cond (eqb (getD text i 0) 40)
-      (and-then (expr-at find text n (i + 1)) (λ j. and-then (operator-at text j) (λ k. and-then (expr-at find text n k) (λ l. bytes-at text (41 ∷ []) l))))
-      (atom-at find text i)
+    (and-then (expr-at find text n (i + 1)) (λ j. and-then (operator-at text j) (λ k. and-then (expr-at find text n k) (λ l. bytes-at text (41 ∷ []) l))))
+    (atom-at find text i)

@@ -38,13 +38,21 @@ fn atom(text: &[u8], i: usize) -> Result<usize, Refusal>
 {
     if is_digit(byte(text, i)) {
         let number = read_number(text, i);
-        return if number.value < 4294967296 { Ok(number.end) } else { Err(Refusal::Large(i)) };
+        return if number.value < 4294967296 {
+            Ok(number.end)
+        } else {
+            Err(Refusal::Large(i))
+        };
     }
     let token = read_word(text, i)?;
     match token.word {
         Word::Own(_) => Ok(token.end),
         Word::Key(key) => {
-            if is_atom(key) { Ok(token.end) } else { Err(Refusal::Shape(token.end)) }
+            if is_atom(key) {
+                Ok(token.end)
+            } else {
+                Err(Refusal::Shape(token.end))
+            }
         }
     }
 }

@@ -24,14 +24,29 @@ use crate::words::word_end;
 // A line of a body. An expression is given by the byte at which it begins, an own number by its place among the names.
 #[derive(Clone, Copy)]
 pub enum Line {
-    Put { own: u32, expr: usize },
-    Read { field: bool, own: u32, expr: usize },
-    Write { field: bool, place: usize, value: usize },
+    Put {
+        own: u32,
+        expr: usize,
+    },
+    Read {
+        field: bool,
+        own: u32,
+        expr: usize,
+    },
+    Write {
+        field: bool,
+        place: usize,
+        value: usize,
+    },
     Barrier,
-    If { expr: usize },
+    If {
+        expr: usize,
+    },
     Else,
     End,
-    While { expr: usize },
+    While {
+        expr: usize,
+    },
 }
 
 // A line, and the byte at which the next one begins.
@@ -89,7 +104,15 @@ fn write(text: &[u8], field: bool, i: usize) -> Result<Lined, Refusal>
     let place = expect(text, i, b" ")?;
     let end = read_expr(text, place, 1024)?;
     let value = expect(text, end, b" = ")?;
-    with_expr(text, Line::Write { field, place, value }, value)
+    with_expr(
+        text,
+        Line::Write {
+            field,
+            place,
+            value,
+        },
+        value,
+    )
 }
 
 // A line that begins with a word of the language, which ends at byte i.
@@ -143,7 +166,11 @@ pub fn within_line(pos: usize, found: Result<Lined, Refusal>) -> Result<Lined, R
         }
         Err(refusal) => {
             let place = refusal_place(refusal);
-            if place > pos && place - pos > 1024 { Err(Refusal::Long(pos + 1024)) } else { Err(refusal) }
+            if place > pos && place - pos > 1024 {
+                Err(Refusal::Long(pos + 1024))
+            } else {
+                Err(refusal)
+            }
         }
     }
 }

@@ -38,10 +38,16 @@ pub fn read_word(text: &[u8], i: usize) -> Result<Token, Refusal>
         return Err(Refusal::Shape(i + 8));
     }
     if let Some(key) = keyword_of(&text[i..end]) {
-        return Ok(Token { word: Word::Key(key), end });
+        return Ok(Token {
+            word: Word::Key(key),
+            end,
+        });
     }
     match name_index(text, i, end) {
-        Some(k) => Ok(Token { word: Word::Own(k), end }),
+        Some(k) => Ok(Token {
+            word: Word::Own(k),
+            end,
+        }),
         None => Err(Refusal::Unknown(i)),
     }
 }

@@ -53,8 +53,19 @@ digit-lines u h = word-lines u (digits-word u h)
 infix-lines : (u v t : List ℕ) (op : ℕ) → eqb op 10 ≡ false → lines-in u ≡ 0 → lines-in v ≡ 0 → t ≡ infix-of u op v → lines-in t ≡ 0
 infix-lines u v t op o p q e =
     ap lines-in e
-    ∙ omega (arith, lines-cons 40 (u ++ (32 ∷ op ∷ 32 ∷ (v ++ (41 ∷ [])))) refl, lines-append u (32 ∷ op ∷ 32 ∷ (v ++ (41 ∷ []))), lines-cons 32 (op ∷ 32 ∷ (v ++ (41 ∷ []))) refl, lines-cons op (32 ∷ (v ++ (41 ∷ []))) o,
-        lines-cons 32 (v ++ (41 ∷ [])) refl, lines-append v (41 ∷ []), lines-cons 41 [] refl, lines-nil, p, q)
+    ∙ omega (
+      arith,
+      lines-cons 40 (u ++ (32 ∷ op ∷ 32 ∷ (v ++ (41 ∷ [])))) refl,
+      lines-append u (32 ∷ op ∷ 32 ∷ (v ++ (41 ∷ []))),
+      lines-cons 32 (op ∷ 32 ∷ (v ++ (41 ∷ []))) refl,
+      lines-cons op (32 ∷ (v ++ (41 ∷ []))) o,
+      lines-cons 32 (v ++ (41 ∷ [])) refl,
+      lines-append v (41 ∷ []),
+      lines-cons 41 [] refl,
+      lines-nil,
+      p,
+      q,
+    )
 
 module _ (N : ℕ → List ℕ → Type 0) (named : (k : ℕ) (u : List ℕ) → N k u → Is-name u) where
   pub expr-lines : (e : Expr) (u : List ℕ) → Spells-expr N e u → lines-in u ≡ 0

@@ -26,7 +26,7 @@ use Rattle.grammar.specs.declared.refusals.Refusal.{Refusal}
 use Rattle.grammar.specs.declared.refusals.Refusal.the-variants.{Shape, ManyLines, Deep}
 use Rattle.grammar.specs.declared.keywords.Keyword.the-variants as kw
 use Rattle.grammar.specs.declared.lines.Line.{Line}
-use Rattle.grammar.specs.declared.lines.Line.the-variants.{Put, Read, Write, Barrier, If, While} 
+use Rattle.grammar.specs.declared.lines.Line.the-variants.{Put, Read, Write, Barrier, If, While}
 use Rattle.grammar.specs.declared.lines.Line.the-variants as line
 use Rattle.grammar.specs.declared.lines.Lined.{Lined}
 use Rattle.grammar.proofs.Complete.{past, part-here}
@@ -46,7 +46,7 @@ never-many i (Ok m) l e = not-err (ManyLines i) l e
 never-many i (Err d) l e = elim (cond-cases (eqb (place-of d) i) _ _ (Ok l) e) [ inl p ↦ not-err d l (p .1) | inr p ↦ not-err (ManyLines i) l (p .1) ]
 
 module _ (find : List ℕ → Option ℕ) (text : List ℕ) (N : ℕ → List ℕ → Type 0) (o : ℕ) (finds : (k : ℕ) (u : List ℕ) → find u ≡ Some k → N k u × (k < o)) (named : (k : ℕ) (u : List ℕ) → N k u → Is-name u)
-  (room : (k : ℕ) (u : List ℕ) → N k u → k < o) where
+    (room : (k : ℕ) (u : List ℕ) → N k u → k < o) where
   abbrev pub Ends-as : Ending → Stop → Type 0
   Ends-as Text s = (length text ≤ s .pos) × (s .next ≡ s .pos)
   Ends-as Else s = drop (s .pos) text ≡ codes "else" ++ (10 ∷ drop (s .next) text)
@@ -109,53 +109,84 @@ module _ (find : List ℕ → Option ℕ) (text : List ℕ) (N : ℕ → List �
   lit-free : lines-in (codes " = ") ≡ 0
   unfolding lines-in
   lit-free = refl
+
   lit-cell : lines-in (codes " = cell ") ≡ 0
   unfolding lines-in
   lit-cell = refl
+
   lit-field : lines-in (codes " = field ") ≡ 0
   unfolding lines-in
   lit-field = refl
+
   lit-c : lines-in (codes "cell ") ≡ 0
   unfolding lines-in
   lit-c = refl
+
   lit-f : lines-in (codes "field ") ≡ 0
   unfolding lines-in
   lit-f = refl
+
   lit-b : lines-in (codes "barrier") ≡ 0
   unfolding lines-in
   lit-b = refl
+
   lit-if : lines-in (codes "if ") ≡ 0
   unfolding lines-in
   lit-if = refl
+
   lit-while : lines-in (codes "while ") ≡ 0
   unfolding lines-in
   lit-while = refl
 
   assigned : (mk : ℕ → Expr → Body → Body) (c : List ℕ) (i n k : ℕ) (a u z : List ℕ) → lines-in c ≡ 0 → N k a → (s : Some-expr N o text u)
-    → ((b : Body) (t : List ℕ) → Spells-body N b t → Spells-body N (mk k (s .0) b) (a ++ (c ++ (u ++ (10 ∷ t)))))
-    → ((b : Body) → Body-fits o b → Body-fits o (mk k (s .0) b)) → ((b : Body) → depth (mk k (s .0) b) ≡ depth b) → ((b : Body) → mk k (s .0) b ≢ end)
-    → drop i text ≡ a ++ (c ++ (u ++ (10 ∷ z))) → n ≡ i + (length a + (length c + (length u + 1))) → n ≤ i + 1025 → Plainly i n
+      → ((b : Body) (t : List ℕ) → Spells-body N b t → Spells-body N (mk k (s .0) b) (a ++ (c ++ (u ++ (10 ∷ t)))))
+      → ((b : Body) → Body-fits o b → Body-fits o (mk k (s .0) b)) → ((b : Body) → depth (mk k (s .0) b) ≡ depth b) → ((b : Body) → mk k (s .0) b ≢ end)
+      → drop i text ≡ a ++ (c ++ (u ++ (10 ∷ z))) → n ≡ i + (length a + (length c + (length u + 1))) → n ≤ i + 1025 → Plainly i n
   assigned mk c i n k a u z lc nk s sp ft fl mo e q h =
       let len = long-two a c u in
-      record { make = mk k (s .0); bytes = a ++ (c ++ u); spells = λ b t x. subst (Spells-body N (mk k (s .0) b)) (two-parts a c u (10 ∷ t)) (sp b t x); fits = ft; flat = fl; more = mo;
-        here = rest-is i n (a ++ (c ++ u)) z (e ∙ two-parts a c u (10 ∷ z)) (omega (arith, len, q)); free = free-two a c u (name-free k a nk) lc (expr-free u s); few = omega (arith, len, q, h) }
+      record {
+        make = mk k (s .0);
+        bytes = a ++ (c ++ u);
+        spells = λ b t x. subst (Spells-body N (mk k (s .0) b)) (two-parts a c u (10 ∷ t)) (sp b t x);
+        fits = ft;
+        flat = fl;
+        more = mo;
+        here = rest-is i n (a ++ (c ++ u)) z (e ∙ two-parts a c u (10 ∷ z)) (omega (arith, len, q));
+        free = free-two a c u (name-free k a nk) lc (expr-free u s);
+        few = omega (arith, len, q, h);
+      }
 
   written : (mk : Expr → Expr → Body → Body) (c : List ℕ) (i n : ℕ) (u w z : List ℕ) → lines-in c ≡ 0 → (s : Some-expr N o text u) (t : Some-expr N o text w)
-    → ((b : Body) (y : List ℕ) → Spells-body N b y → Spells-body N (mk (s .0) (t .0) b) (c ++ (u ++ (codes " = " ++ (w ++ (10 ∷ y))))))
-    → ((b : Body) → Body-fits o b → Body-fits o (mk (s .0) (t .0) b)) → ((b : Body) → depth (mk (s .0) (t .0) b) ≡ depth b) → ((b : Body) → mk (s .0) (t .0) b ≢ end)
-    → drop i text ≡ c ++ (u ++ (codes " = " ++ (w ++ (10 ∷ z)))) → n ≡ i + (length c + (length u + (3 + (length w + 1)))) → n ≤ i + 1025 → Plainly i n
+      → ((b : Body) (y : List ℕ) → Spells-body N b y → Spells-body N (mk (s .0) (t .0) b) (c ++ (u ++ (codes " = " ++ (w ++ (10 ∷ y))))))
+      → ((b : Body) → Body-fits o b → Body-fits o (mk (s .0) (t .0) b)) → ((b : Body) → depth (mk (s .0) (t .0) b) ≡ depth b) → ((b : Body) → mk (s .0) (t .0) b ≢ end)
+      → drop i text ≡ c ++ (u ++ (codes " = " ++ (w ++ (10 ∷ z)))) → n ≡ i + (length c + (length u + (3 + (length w + 1)))) → n ≤ i + 1025 → Plainly i n
   written mk c i n u w z lc s t sp ft fl mo e q h =
       let x : (y : List ℕ) → c ++ (u ++ (codes " = " ++ (w ++ y))) ≡ (c ++ (u ++ (codes " = " ++ w))) ++ y = λ y. ap (λ m. c ++ m) (two-parts u (codes " = ") w y) ∙ sym (append-assoc c (u ++ (codes " = " ++ w)) y) in
       let len : length (c ++ (u ++ (codes " = " ++ w))) ≡ length c + (length u + (3 + length w)) = omega (arith, length-append c (u ++ (codes " = " ++ w)), long-two u (codes " = ") w) in
-      record { make = mk (s .0) (t .0); bytes = c ++ (u ++ (codes " = " ++ w)); spells = λ b y v. subst (Spells-body N (mk (s .0) (t .0) b)) (x (10 ∷ y)) (sp b y v); fits = ft; flat = fl; more = mo;
+      record {
+        make = mk (s .0) (t .0);
+        bytes = c ++ (u ++ (codes " = " ++ w));
+        spells = λ b y v. subst (Spells-body N (mk (s .0) (t .0) b)) (x (10 ∷ y)) (sp b y v);
+        fits = ft;
+        flat = fl;
+        more = mo;
         here = rest-is i n (c ++ (u ++ (codes " = " ++ w))) z (e ∙ x (10 ∷ z)) (omega (arith, len, q));
-        free = omega (arith, lines-append c (u ++ (codes " = " ++ w)), free-two u (codes " = ") w (expr-free u s) lit-free (expr-free w t), lc); few = omega (arith, len, q, h) }
+        free = omega (arith, lines-append c (u ++ (codes " = " ++ w)), free-two u (codes " = ") w (expr-free u s) lit-free (expr-free w t), lc);
+        few = omega (arith, len, q, h);
+      }
 
   opened : (c : List ℕ) (i n : ℕ) (u z : List ℕ) → lines-in c ≡ 0 → Some-expr N o text u → drop i text ≡ c ++ (u ++ (10 ∷ z)) → n ≡ i + (length c + (length u + 1)) → n ≤ i + 1025 → Opened c i n
   opened c i n u z lc s e q h =
       let len = length-append c u in
-      record { expr = s .0; bytes = u; spells = s .1; fits = s .2; here = rest-is i n (c ++ u) z (e ∙ sym (append-assoc c u (10 ∷ z))) (omega (arith, len, q)) ∙ append-assoc c u (10 ∷ drop n text);
-        free = omega (arith, lines-append c u, lc, expr-free u s); few = omega (arith, len, q, h) }
+      record {
+        expr = s .0;
+        bytes = u;
+        spells = s .1;
+        fits = s .2;
+        here = rest-is i n (c ++ u) z (e ∙ sym (append-assoc c u (10 ∷ z))) (omega (arith, len, q)) ∙ append-assoc c u (10 ∷ drop n text);
+        free = omega (arith, lines-append c u, lc, expr-free u s);
+        few = omega (arith, len, q, h);
+      }
 
   abbrev Line-says : Kind → ℕ → ℕ → Type 0
   Line-says Plain i n = Plainly i n
@@ -185,8 +216,17 @@ module _ (find : List ℕ → Option ℕ) (text : List ℕ) (N : ℕ → List �
   line-says i (Write true p v) n (u, w, z, s, t, ep, ev, en, e) h =
       written write-all (codes "field ") i n u w z lit-f s t (λ b y x. (u, w, y, s .1, t .1, x, refl)) (λ b f. (s .2, t .2, f)) (λ b. refl) (λ b q. let y : _≡_ {A = ℕ} 0 1 = cc in omega arith) e (omega (arith, ep, ev, en)) h
   line-says i Barrier n (z, en, e) h =
-      record { make = barrier; bytes = codes "barrier"; spells = λ b t v. (t, v, refl); fits = λ b f. f; flat = λ b. refl; more = λ b q. let y : _≡_ {A = ℕ} 0 1 = cc in omega arith;
-        here = rest-is i n (codes "barrier") z e (omega (arith, en)); free = lit-b; few = omega arith }
+      record {
+        make = barrier;
+        bytes = codes "barrier";
+        spells = λ b t v. (t, v, refl);
+        fits = λ b f. f;
+        flat = λ b. refl;
+        more = λ b q. let y : _≡_ {A = ℕ} 0 1 = cc in omega arith;
+        here = rest-is i n (codes "barrier") z e (omega (arith, en));
+        free = lit-b;
+        few = omega arith;
+      }
   line-says i (If x) n (u, z, s, ex, en, e) h = (opened (codes "if ") i n u z lit-if s e (omega (arith, ex, en)) h, if-opens i (u ++ (10 ∷ z)) e)
   line-says i line.Else n (z, en, e) h = rest-is i n (codes "else") z e (omega (arith, en))
   line-says i line.End n (z, en, e) h = rest-is i n (codes "end") z e (omega (arith, en))
@@ -196,13 +236,15 @@ module _ (find : List ℕ → Option ℕ) (text : List ℕ) (N : ℕ → List �
   next-says : (deep left i : ℕ) (l : Lined) → next-at find text deep left i ≡ Ok l → (0 < left) × ((eqb deep 0 && opens (key-at text i)) ≡ false) × Line-says (kind-of (l .line)) i (l .next)
   unfolding next-at
   next-says deep left i l e =
-      elim (cond-cases (eqb left 0) _ _ (Ok l) e)
-        [ inl p ↦ absurd (never-many i (line-at find text i) l (p .1))
+      elim (cond-cases (eqb left 0) _ _ (Ok l) e) [
+        | inl p ↦ absurd (never-many i (line-at find text i) l (p .1))
         | inr p ↦
-          let n : (left ≡ 0 → ⊥) = eqb-false left 0 (p .0) in
-          elim (cond-cases (eqb deep 0 && opens (key-at text i)) _ _ (Ok l) (p .1))
-            [ inl q ↦ absurd (not-err (Deep i) l (q .1))
-            | inr q ↦ let s = line-sound find text N o finds i l (q .1) in (omega (arith, n), q .0, line-says i (l .line) (l .next) (s .0) (s .1)) ] ]
+            let n : (left ≡ 0 → ⊥) = eqb-false left 0 (p .0) in
+            elim (cond-cases (eqb deep 0 && opens (key-at text i)) _ _ (Ok l) (p .1)) [
+              | inl q ↦ absurd (not-err (Deep i) l (q .1))
+              | inr q ↦ let s = line-sound find text N o finds i l (q .1) in (omega (arith, n), q .0, line-says i (l .line) (l .next) (s .0) (s .1))
+            ]
+      ]
 
   -- the blocks that a reader of less depth reads
   abbrev Reader : (ℕ → ℕ → ℕ → Bool → Result Stop Refusal) → Type 0
@@ -231,9 +273,18 @@ module _ (find : List ℕ → Option ℕ) (text : List ℕ) (N : ℕ → List �
   plain-block : (deep left i n : ℕ) (some : Bool) (s : Stop) → 0 < left → Plainly i n → Block deep (left - 1) n true s → Block deep left i some s
   plain-block deep left i n some s h p r =
       let q = one-line text i n (p .bytes) (p .free) (p .few) (p .here) in
-      record { body = p .make (r .body); bytes = p .bytes ++ (10 ∷ r .bytes); spells = p .spells (r .body) (r .bytes) (r .spells); fits = p .fits (r .body) (r .fits); shallow = omega (arith, p .flat (r .body), r .shallow);
+      record {
+        body = p .make (r .body);
+        bytes = p .bytes ++ (10 ∷ r .bytes);
+        spells = p .spells (r .body) (r .bytes) (r .spells);
+        fits = p .fits (r .body) (r .fits);
+        shallow = omega (arith, p .flat (r .body), r .shallow);
         here = p .here ∙ ap (λ t. p .bytes ++ (10 ∷ t)) (r .here) ∙ sym (append-assoc (p .bytes) (10 ∷ r .bytes) (drop (s .pos) text));
-        count = omega (arith, q .count, r .count, h); short = q .short ∙ r .short; ends = r .ends; lines = λ _. inr (p .more (r .body)) }
+        count = omega (arith, q .count, r .count, h);
+        short = q .short ∙ r .short;
+        ends = r .ends;
+        lines = λ _. inr (p .more (r .body));
+      }
 
   -- an end line
   end-line : (i n : ℕ) → drop i text ≡ codes "end" ++ (10 ∷ drop n text) → One-line text i n
@@ -246,35 +297,51 @@ module _ (find : List ℕ → Option ℕ) (text : List ℕ) (N : ℕ → List �
 
   -- Block's count and short speak of what is behind the ending line
   while-block : (deep left i n : ℕ) (some : Bool) (c s : Stop) → 0 < left → 0 < deep → Opened (codes "while ") i n → Block (deep - 1) (left - 1) n false c → c .ending ≡ End → c .some ≡ true
-    → Block deep (c .left) (c .next) true s → Block deep left i some s
+      → Block deep (c .left) (c .next) true s → Block deep left i some s
   unfolding Spells-body Body-fits depth
   while-block deep left i n some c s h d p x g m r =
       let q = one-line text i n (codes "while " ++ p .bytes) (p .free) (p .few) (p .here ∙ sym (append-assoc (codes "while ") (p .bytes) (10 ∷ drop n text))) in
       let y : drop (c .pos) text ≡ codes "end" ++ (10 ∷ drop (c .next) text) = subst (λ v. Ends-as v c) g (x .ends) in
       let ne : x .body ≢ end = elim (x .lines m) [ inl w ↦ (λ _. let z : _≡_ {A = ℕ} 0 1 = cc in omega arith) | inr w ↦ w ] in
-      record { body = while (p .expr) (x .body) (r .body); bytes = codes "while " ++ (p .bytes ++ (10 ∷ (x .bytes ++ (codes "end" ++ (10 ∷ r .bytes)))));
-        spells = (p .bytes, x .bytes, r .bytes, p .spells, x .spells, ne, r .spells, refl); fits = (p .fits, x .fits, ne, r .fits); shallow = omega (arith, x .shallow, r .shallow, d);
+      record {
+        body = while (p .expr) (x .body) (r .body);
+        bytes = codes "while " ++ (p .bytes ++ (10 ∷ (x .bytes ++ (codes "end" ++ (10 ∷ r .bytes)))));
+        spells = (p .bytes, x .bytes, r .bytes, p .spells, x .spells, ne, r .spells, refl);
+        fits = (p .fits, x .fits, ne, r .fits);
+        shallow = omega (arith, x .shallow, r .shallow, d);
         here = p .here ∙ ap (λ t. codes "while " ++ (p .bytes ++ (10 ∷ t))) (x .here ∙ ap (λ t. x .bytes ++ t) (y ∙ ap (λ t. codes "end" ++ (10 ∷ t)) (r .here)))
-          ∙ sym (append-assoc (codes "while ") (p .bytes ++ (10 ∷ (x .bytes ++ (codes "end" ++ (10 ∷ r .bytes))))) (drop (s .pos) text)
+            ∙ sym (append-assoc (codes "while ") (p .bytes ++ (10 ∷ (x .bytes ++ (codes "end" ++ (10 ∷ r .bytes))))) (drop (s .pos) text)
             ∙ ap (λ t. codes "while " ++ t) (append-assoc (p .bytes) (10 ∷ (x .bytes ++ (codes "end" ++ (10 ∷ r .bytes)))) (drop (s .pos) text)
-              ∙ ap (λ t. p .bytes ++ (10 ∷ t)) (append-assoc (x .bytes) (codes "end" ++ (10 ∷ r .bytes)) (drop (s .pos) text))));
-        count = omega (arith, q .count, x .count, r .count, h); short = q .short ∙ x .short ∙ r .short; ends = r .ends; lines = λ _. inr (λ e. let z : _≡_ {A = ℕ} 0 1 = cc in omega arith) }
+            ∙ ap (λ t. p .bytes ++ (10 ∷ t)) (append-assoc (x .bytes) (codes "end" ++ (10 ∷ r .bytes)) (drop (s .pos) text))));
+        count = omega (arith, q .count, x .count, r .count, h);
+        short = q .short ∙ x .short ∙ r .short;
+        ends = r .ends;
+        lines = λ _. inr (λ e. let z : _≡_ {A = ℕ} 0 1 = cc in omega arith);
+      }
 
   if-block : (deep left i n : ℕ) (some : Bool) (c s : Stop) → 0 < left → 0 < deep → Opened (codes "if ") i n → Block (deep - 1) (left - 1) n false c → c .ending ≡ End → Block deep (c .left) (c .next) true s → Block deep left i some s
   unfolding Spells-body Body-fits depth
   if-block deep left i n some c s h d p x g r =
       let q = one-line text i n (codes "if " ++ p .bytes) (p .free) (p .few) (p .here ∙ sym (append-assoc (codes "if ") (p .bytes) (10 ∷ drop n text))) in
       let y : drop (c .pos) text ≡ codes "end" ++ (10 ∷ drop (c .next) text) = subst (λ v. Ends-as v c) g (x .ends) in
-      record { body = when (p .expr) (x .body) end (r .body); bytes = codes "if " ++ (p .bytes ++ (10 ∷ (x .bytes ++ (codes "end" ++ (10 ∷ r .bytes)))));
-        spells = (p .bytes, x .bytes, [], r .bytes, p .spells, x .spells, inl (refl, refl), r .spells, refl); fits = (p .fits, x .fits, tt, r .fits); shallow = omega (arith, x .shallow, r .shallow, d);
+      record {
+        body = when (p .expr) (x .body) end (r .body);
+        bytes = codes "if " ++ (p .bytes ++ (10 ∷ (x .bytes ++ (codes "end" ++ (10 ∷ r .bytes)))));
+        spells = (p .bytes, x .bytes, [], r .bytes, p .spells, x .spells, inl (refl, refl), r .spells, refl);
+        fits = (p .fits, x .fits, tt, r .fits);
+        shallow = omega (arith, x .shallow, r .shallow, d);
         here = p .here ∙ ap (λ t. codes "if " ++ (p .bytes ++ (10 ∷ t))) (x .here ∙ ap (λ t. x .bytes ++ t) (y ∙ ap (λ t. codes "end" ++ (10 ∷ t)) (r .here)))
-          ∙ sym (append-assoc (codes "if ") (p .bytes ++ (10 ∷ (x .bytes ++ (codes "end" ++ (10 ∷ r .bytes))))) (drop (s .pos) text)
+            ∙ sym (append-assoc (codes "if ") (p .bytes ++ (10 ∷ (x .bytes ++ (codes "end" ++ (10 ∷ r .bytes))))) (drop (s .pos) text)
             ∙ ap (λ t. codes "if " ++ t) (append-assoc (p .bytes) (10 ∷ (x .bytes ++ (codes "end" ++ (10 ∷ r .bytes)))) (drop (s .pos) text)
-              ∙ ap (λ t. p .bytes ++ (10 ∷ t)) (append-assoc (x .bytes) (codes "end" ++ (10 ∷ r .bytes)) (drop (s .pos) text))));
-        count = omega (arith, q .count, x .count, r .count, h); short = q .short ∙ x .short ∙ r .short; ends = r .ends; lines = λ _. inr (λ e. let z : _≡_ {A = ℕ} 0 1 = cc in omega arith) }
+            ∙ ap (λ t. p .bytes ++ (10 ∷ t)) (append-assoc (x .bytes) (codes "end" ++ (10 ∷ r .bytes)) (drop (s .pos) text))));
+        count = omega (arith, q .count, x .count, r .count, h);
+        short = q .short ∙ x .short ∙ r .short;
+        ends = r .ends;
+        lines = λ _. inr (λ e. let z : _≡_ {A = ℕ} 0 1 = cc in omega arith);
+      }
 
   else-block : (deep left i n : ℕ) (some : Bool) (c w s : Stop) → 0 < left → 0 < deep → Opened (codes "if ") i n → Block (deep - 1) (left - 1) n false c → c .ending ≡ Else
-    → Block (deep - 1) (c .left) (c .next) false w → w .ending ≡ End → Block deep (w .left) (w .next) true s → Block deep left i some s
+      → Block (deep - 1) (c .left) (c .next) false w → w .ending ≡ End → Block deep (w .left) (w .next) true s → Block deep left i some s
   unfolding Spells-body Body-fits depth
   else-block deep left i n some c w s h d p x g v k r =
       let q = one-line text i n (codes "if " ++ p .bytes) (p .free) (p .few) (p .here ∙ sym (append-assoc (codes "if ") (p .bytes) (10 ∷ drop n text))) in
@@ -283,36 +350,45 @@ module _ (find : List ℕ → Option ℕ) (text : List ℕ) (N : ℕ → List �
       let tail : List ℕ = codes "end" ++ (10 ∷ r .bytes) in
       let ew : List ℕ = codes "else" ++ (10 ∷ v .bytes) in
       let z : List ℕ = drop (s .pos) text in
-      record { body = when (p .expr) (x .body) (v .body) (r .body); bytes = codes "if " ++ (p .bytes ++ (10 ∷ (x .bytes ++ (ew ++ tail))));
-        spells = (p .bytes, x .bytes, ew, r .bytes, p .spells, x .spells, inr (v .bytes, v .spells, refl), r .spells, refl); fits = (p .fits, x .fits, v .fits, r .fits); shallow = omega (arith, x .shallow, v .shallow, r .shallow, d);
+      record {
+        body = when (p .expr) (x .body) (v .body) (r .body);
+        bytes = codes "if " ++ (p .bytes ++ (10 ∷ (x .bytes ++ (ew ++ tail))));
+        spells = (p .bytes, x .bytes, ew, r .bytes, p .spells, x .spells, inr (v .bytes, v .spells, refl), r .spells, refl);
+        fits = (p .fits, x .fits, v .fits, r .fits);
+        shallow = omega (arith, x .shallow, v .shallow, r .shallow, d);
         here = p .here ∙ ap (λ t. codes "if " ++ (p .bytes ++ (10 ∷ t)))
             (x .here ∙ ap (λ t. x .bytes ++ t) (y ∙ ap (λ t. codes "else" ++ (10 ∷ t)) (v .here ∙ ap (λ t. v .bytes ++ t) (y2 ∙ ap (λ t. codes "end" ++ (10 ∷ t)) (r .here)))))
-          ∙ sym (append-assoc (codes "if ") (p .bytes ++ (10 ∷ (x .bytes ++ (ew ++ tail)))) z
+            ∙ sym (append-assoc (codes "if ") (p .bytes ++ (10 ∷ (x .bytes ++ (ew ++ tail)))) z
             ∙ ap (λ t. codes "if " ++ t) (append-assoc (p .bytes) (10 ∷ (x .bytes ++ (ew ++ tail))) z
-              ∙ ap (λ t. p .bytes ++ (10 ∷ t)) (append-assoc (x .bytes) (ew ++ tail) z ∙ ap (λ t. x .bytes ++ t) (append-assoc ew tail z ∙ ap (λ t. codes "else" ++ (10 ∷ t)) refl))));
-        count = omega (arith, q .count, x .count, v .count, r .count, h); short = q .short ∙ x .short ∙ v .short ∙ r .short; ends = r .ends; lines = λ _. inr (λ e. let z : _≡_ {A = ℕ} 0 1 = cc in omega arith) }
+            ∙ ap (λ t. p .bytes ++ (10 ∷ t)) (append-assoc (x .bytes) (ew ++ tail) z ∙ ap (λ t. x .bytes ++ t) (append-assoc ew tail z ∙ ap (λ t. codes "else" ++ (10 ∷ t)) refl))));
+        count = omega (arith, q .count, x .count, v .count, r .count, h);
+        short = q .short ∙ x .short ∙ v .short ∙ r .short;
+        ends = r .ends;
+        lines = λ _. inr (λ e. let z : _≡_ {A = ℕ} 0 1 = cc in omega arith);
+      }
 
   kind-sound : (go : ℕ → ℕ → ℕ → Bool → Result Stop Refusal) → Reader go → (deep left i n : ℕ) (some : Bool) (k : Kind) (s : Stop)
-    → 0 < left → (eqb deep 0 && opens (key-at text i)) ≡ false → Line-says k i n → by-kind go deep left i some k n ≡ Ok s → Block deep left i some s
+      → 0 < left → (eqb deep 0 && opens (key-at text i)) ≡ false → Line-says k i n → by-kind go deep left i some k n ≡ Ok s → Block deep left i some s
   unfolding Spells-body Body-fits depth
   kind-sound go rd deep left i n some Plain s h d p e = plain-block deep left i n some s h p (rd deep (left - 1) n true s e)
   kind-sound go rd deep left i n some Opens s h d p e =
       let a = then-parts (go (deep - 1) (left - 1) n false) _ s e in
       let x = rd (deep - 1) (left - 1) n false (a .0) (a .1) in
       let dd = deep-some deep (opens (key-at text i)) (p .1) d in
-      elim (cond-cases (is-else (a .0 .ending)) _ _ (Ok s) (a .2))
-        [ inl q ↦
-          let b = then-parts (go (deep - 1) (a .0 .left) (a .0 .next) false) _ s (q .1) in
-          let y = rd (deep - 1) (a .0 .left) (a .0 .next) false (b .0) (b .1) in
-          let c = then-parts (must-end (b .0)) _ s (b .2) in
-          let f = ended (b .0 .ending) (b .0) (c .0) refl (c .1) in
-          let r = rd deep (c .0 .left) (c .0 .next) true s (c .2) in
-          else-block deep left i n some (a .0) (b .0) s h dd (p .0) x (else-as (a .0 .ending) (q .0)) y (f .2) (subst (λ m. Block deep (m .left) (m .next) true s) (f .0) r)
+      elim (cond-cases (is-else (a .0 .ending)) _ _ (Ok s) (a .2)) [
+        | inl q ↦
+            let b = then-parts (go (deep - 1) (a .0 .left) (a .0 .next) false) _ s (q .1) in
+            let y = rd (deep - 1) (a .0 .left) (a .0 .next) false (b .0) (b .1) in
+            let c = then-parts (must-end (b .0)) _ s (b .2) in
+            let f = ended (b .0 .ending) (b .0) (c .0) refl (c .1) in
+            let r = rd deep (c .0 .left) (c .0 .next) true s (c .2) in
+            else-block deep left i n some (a .0) (b .0) s h dd (p .0) x (else-as (a .0 .ending) (q .0)) y (f .2) (subst (λ m. Block deep (m .left) (m .next) true s) (f .0) r)
         | inr q ↦
-          let c = then-parts (must-end (a .0)) _ s (q .1) in
-          let f = ended (a .0 .ending) (a .0) (c .0) refl (c .1) in
-          let r = rd deep (c .0 .left) (c .0 .next) true s (c .2) in
-          if-block deep left i n some (a .0) s h dd (p .0) x (f .2) (subst (λ m. Block deep (m .left) (m .next) true s) (f .0) r) ]
+            let c = then-parts (must-end (a .0)) _ s (q .1) in
+            let f = ended (a .0 .ending) (a .0) (c .0) refl (c .1) in
+            let r = rd deep (c .0 .left) (c .0 .next) true s (c .2) in
+            if-block deep left i n some (a .0) s h dd (p .0) x (f .2) (subst (λ m. Block deep (m .left) (m .next) true s) (f .0) r)
+      ]
   kind-sound go rd deep left i n some Loops s h d p e =
       let a = then-parts (go (deep - 1) (left - 1) n false) _ s e in
       let x = rd (deep - 1) (left - 1) n false (a .0) (a .1) in
@@ -325,23 +401,24 @@ module _ (find : List ℕ → Option ℕ) (text : List ℕ) (N : ℕ → List �
       let q : record { ending = Else; some = some; pos = i; next = n; left = left - 1 } ≡ s = same-ok _ s e in
       let l = else-line i n p in
       subst (Block deep left i some) q
-        (record { body = end; bytes = []; spells = refl; fits = tt; shallow = omega arith; here = refl; count = omega (arith, l .count, h); short = l .short; ends = p; lines = λ m. inl m })
+      (record { body = end; bytes = []; spells = refl; fits = tt; shallow = omega arith; here = refl; count = omega (arith, l .count, h); short = l .short; ends = p; lines = λ m. inl m })
   kind-sound go rd deep left i n some Closes s h d p e =
       let q : record { ending = End; some = some; pos = i; next = n; left = left - 1 } ≡ s = same-ok _ s e in
       let l = end-line i n p in
       subst (Block deep left i some) q
-        (record { body = end; bytes = []; spells = refl; fits = tt; shallow = omega arith; here = refl; count = omega (arith, l .count, h); short = l .short; ends = p; lines = λ m. inl m })
+      (record { body = end; bytes = []; spells = refl; fits = tt; shallow = omega arith; here = refl; count = omega (arith, l .count, h); short = l .short; ends = p; lines = λ m. inl m })
 
   pub block-sound : (f deep left i : ℕ) (some : Bool) (s : Stop) → block-at find text f deep left i some ≡ Ok s → Block deep left i some s
   unfolding block-at Spells-body Body-fits depth
   block-sound zero deep left i some s e = absurd (not-err (Shape i) s e)
   block-sound (suc f) deep left i some s e =
-      elim (cond-cases (leb (length text) i) _ _ (Ok s) e)
-        [ inl p ↦
-          let q : record { ending = Text; some = some; pos = i; next = i; left = left } ≡ s = same-ok _ s (p .1) in
-          subst (Block deep left i some) q
+      elim (cond-cases (leb (length text) i) _ _ (Ok s) e) [
+        | inl p ↦
+            let q : record { ending = Text; some = some; pos = i; next = i; left = left } ≡ s = same-ok _ s (p .1) in
+            subst (Block deep left i some) q
             (record { body = end; bytes = []; spells = refl; fits = tt; shallow = omega arith; here = refl; count = omega arith; short = refl; ends = (leb-true (length text) i (p .0), refl); lines = λ m. inl m })
         | inr p ↦
-          let a = then-parts (next-at find text deep left i) _ s (p .1) in
-          let n = next-says deep left i (a .0) (a .1) in
-          kind-sound (block-at find text f) (λ d l j b t. block-sound f d l j b t) deep left i (a .0 .next) some (kind-of (a .0 .line)) s (n .0) (n .1) (n .2) (a .2) ]
+            let a = then-parts (next-at find text deep left i) _ s (p .1) in
+            let n = next-says deep left i (a .0) (a .1) in
+            kind-sound (block-at find text f) (λ d l j b t. block-sound f d l j b t) deep left i (a .0 .next) some (kind-of (a .0 .line)) s (n .0) (n .1) (n .2) (a .2)
+      ]

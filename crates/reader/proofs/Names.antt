@@ -65,7 +65,7 @@ module _ (seen : List (List ℕ)) (text : List ℕ) (i : ℕ) where
 -- the names one after the other
 module _ (text : List ℕ) where
   pub names-step : (n : ℕ) (seen : List (List ℕ)) (i : ℕ) → 0 < n
-    → and-then (bytes-at text (codes " ") i) (λ j. and-then (name-at seen text j) (λ e. cond (eqb (getD text e 0) 10) (Ok (record { names = seen ++ (word-part text j ∷ []); next = e + 1 })) (names-at text (n - 1) (seen ++ (word-part text j ∷ [])) e)))
+      → and-then (bytes-at text (codes " ") i) (λ j. and-then (name-at seen text j) (λ e. cond (eqb (getD text e 0) 10) (Ok (record { names = seen ++ (word-part text j ∷ []); next = e + 1 })) (names-at text (n - 1) (seen ++ (word-part text j ∷ [])) e)))
       ≡ names-at text n seen i
   unfolding names-at
   names-step zero seen i h = absurd (omega arith)
@@ -83,10 +83,10 @@ module _ (text : List ℕ) where
     abbrev rest : ℕ → Result Head Refusal
     rest j =
         cond (digit (getD text j 0))
-          (cond (ltb 16384 (number-part text j)) (Err (ManyCells j))
-            (cond (ltb 1024 ((j + run-of digit (drop j text)) - i)) (Err (Long (i + 1024)))
-              (and-then (bytes-at text (codes "\n") (j + run-of digit (drop j text))) (λ n. Ok (record { many = number-part text j; next = n })))))
-          (Err (Shape j))
+        (cond (ltb 16384 (number-part text j)) (Err (ManyCells j))
+        (cond (ltb 1024 ((j + run-of digit (drop j text)) - i)) (Err (Long (i + 1024)))
+        (and-then (bytes-at text (codes "\n") (j + run-of digit (drop j text))) (λ n. Ok (record { many = number-part text j; next = n })))))
+        (Err (Shape j))
 
     pub cells-none : is-cells (key-at text i) ≡ false → Ok (record { many = 0; next = i }) ≡ cells-at text i
     unfolding cells-at

@@ -65,13 +65,13 @@ module _ (find : List ℕ → Option ℕ) (text : List ℕ) (deep left i : ℕ) 
     block-text (suc f) h t = rw (le-leb (length text) i t) refl
 
     pub block-step : (f : ℕ) → left < f → i < length text
-      → and-then (next-at find text deep left i) (λ l. by-kind (block-at find text (f - 1)) deep left i some (kind-of (l .line)) (l .next)) ≡ block-at find text f deep left i some
+        → and-then (next-at find text deep left i) (λ l. by-kind (block-at find text (f - 1)) deep left i some (kind-of (l .line)) (l .next)) ≡ block-at find text f deep left i some
     unfolding block-at
     block-step zero h t = absurd (omega arith)
     block-step (suc f) h t = let q : suc f - 1 ≡ f = omega arith in rw (lt-leb (length text) i t, q) refl
 
     pub block-kind : (f : ℕ) (l : Lined) (k : Kind) → left < f → i < length text → Ok l ≡ next-at find text deep left i → k ≡ kind-of (l .line)
-      → by-kind (block-at find text (f - 1)) deep left i some k (l .next) ≡ block-at find text f deep left i some
+        → by-kind (block-at find text (f - 1)) deep left i some k (l .next) ≡ block-at find text f deep left i some
     block-kind f l k h t e q =
         ap (λ m. by-kind (block-at find text (f - 1)) deep left i some m (l .next)) q
         ∙ then-ok (next-at find text deep left i) (λ m. by-kind (block-at find text (f - 1)) deep left i some (kind-of (m .line)) (m .next)) l e

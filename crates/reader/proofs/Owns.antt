@@ -70,23 +70,42 @@ pub record New (seen : List (List ℕ)) (text : List ℕ) (i e : ℕ) : Type 0 w
   pub apart : Apart (drop e text)
 
 new-made : (seen : List (List ℕ)) (text : List ℕ) (i e : ℕ) → letter (getD text i 0) ≡ true → leb 9 (run-of word-byte (drop i text)) ≡ false → is-key (key-at text i) ≡ false
-  → one-of seen (word-part text i) ≡ false → leb 64 (length seen) ≡ false → i + run-of word-byte (drop i text) ≡ e → New seen text i e
+    → one-of seen (word-part text i) ≡ false → leb 64 (length seen) ≡ false → i + run-of word-byte (drop i text) ≡ e → New seen text i e
 new-made seen text i e l s k o m q =
     let n : 1 ≤ run-of word-byte (drop i text) = run-some word-byte text i refl (letter-word (getD text i 0) l) in
     let len : length (word-part text i) ≡ run-of word-byte (drop i text) = run-length word-byte text i in
-    record { name = record { some = omega arith; begins = ap letter (run-first text i n) ∙ l; bytes = run-each word-byte (drop i text); short = omega (arith, leb-false 9 _ s); free = key-none-free (word-part text i) (key-none (key-at text i) k) };
-      fresh = o; room = leb-false 64 (length seen) m; here = run-splits word-byte text i ∙ ap (λ m. word-part text i ++ drop m text) q;
-      apart = ap (λ m. word-byte (getD m 0 0)) (ap (λ m. drop m text) (sym q) ∙ sym (drop-drop (run-of word-byte (drop i text)) i text)) ∙ run-apart word-byte refl (drop i text) }
+    record {
+      name = record { some = omega arith; begins = ap letter (run-first text i n) ∙ l; bytes = run-each word-byte (drop i text); short = omega (arith, leb-false 9 _ s); free = key-none-free (word-part text i) (key-none (key-at text i) k) };
+      fresh = o;
+      room = leb-false 64 (length seen) m;
+      here = run-splits word-byte text i ∙ ap (λ m. word-part text i ++ drop m text) q;
+      apart = ap (λ m. word-byte (getD m 0 0)) (ap (λ m. drop m text) (sym q) ∙ sym (drop-drop (run-of word-byte (drop i text)) i text)) ∙ run-apart word-byte refl (drop i text);
+    }
 
 pub name-sound : (seen : List (List ℕ)) (text : List ℕ) (i e : ℕ) → name-at seen text i ≡ Ok e → New seen text i e
 unfolding name-at
 name-sound seen text i e h =
-    elim (cond-cases (letter (getD text i 0)) _ _ (Ok e) h) [ inr p ↦ absurd (not-err (Shape i) e (p .1)) | inl p ↦
-    elim (cond-cases (leb 9 (run-of word-byte (drop i text))) _ _ (Ok e) (p .1)) [ inl q ↦ absurd (not-err _ e (q .1)) | inr q ↦
-    elim (cond-cases (is-key (key-at text i)) _ _ (Ok e) (q .1)) [ inl k ↦ absurd (not-err _ e (k .1)) | inr k ↦
-    elim (cond-cases (one-of seen (word-part text i)) _ _ (Ok e) (k .1)) [ inl o ↦ absurd (not-err _ e (o .1)) | inr o ↦
-    elim (cond-cases (leb 64 (length seen)) _ _ (Ok e) (o .1)) [ inl m ↦ absurd (not-err _ e (m .1)) | inr m ↦
-      new-made seen text i e (p .0) (q .0) (k .0) (o .0) (m .0) (same-ok _ e (m .1)) ] ] ] ] ]
+    elim (cond-cases (letter (getD text i 0)) _ _ (Ok e) h) [
+      | inr p ↦ absurd (not-err (Shape i) e (p .1))
+      | inl p ↦
+          elim (cond-cases (leb 9 (run-of word-byte (drop i text))) _ _ (Ok e) (p .1)) [
+            | inl q ↦ absurd (not-err _ e (q .1))
+            | inr q ↦
+                elim (cond-cases (is-key (key-at text i)) _ _ (Ok e) (q .1)) [
+                  | inl k ↦ absurd (not-err _ e (k .1))
+                  | inr k ↦
+                      elim (cond-cases (one-of seen (word-part text i)) _ _ (Ok e) (k .1)) [
+                        | inl o ↦ absurd (not-err _ e (o .1))
+                        | inr o ↦
+                            elim (cond-cases (leb 64 (length seen)) _ _ (Ok e) (o .1)) [
+                              | inl m ↦ absurd (not-err _ e (m .1))
+                              | inr m ↦
+                                  new-made seen text i e (p .0) (q .0) (k .0) (o .0) (m .0) (same-ok _ e (m .1))
+                            ]
+                      ]
+                ]
+          ]
+    ]
 
 -- one name more
 pub spaced-push : (ns : List (List ℕ)) (u z : List ℕ) → spaced (ns ++ (u ∷ [])) ++ z ≡ spaced ns ++ (32 ∷ (u ++ z))
@@ -95,9 +114,10 @@ spaced-push (n ∷ ns) u z = ap (λ t. 32 ∷ t) (append-assoc n (spaced (ns ++ 
 
 pub each-push : (P : List ℕ → Type 0) (ns : List (List ℕ)) (u : List ℕ) → ((k : ℕ) → k < length ns → P (getD ns k [])) → P u → (k : ℕ) → k < length (ns ++ (u ∷ [])) → P (getD (ns ++ (u ∷ [])) k [])
 each-push P ns u h p k l =
-    elim (cases-lt k (length ns))
-      [ inl q ↦ subst P (sym (getD-append-left ns (u ∷ []) [] k q)) (h k q)
-      | inr q ↦ let e : length ns ≡ k = omega (arith, length-push ns u) in subst P (sym (getD-push ns u [] k e)) p ]
+    elim (cases-lt k (length ns)) [
+      | inl q ↦ subst P (sym (getD-append-left ns (u ∷ []) [] k q)) (h k q)
+      | inr q ↦ let e : length ns ≡ k = omega (arith, length-push ns u) in subst P (sym (getD-push ns u [] k e)) p
+    ]
 
 pub not-seen : (ns : List (List ℕ)) (u : List ℕ) → one-of ns u ≡ false → (k : ℕ) → k < length ns → getD ns k [] ≡ u → ⊥
 unfolding one-of
@@ -109,15 +129,18 @@ pub distinct-push : (ns : List (List ℕ)) (u : List ℕ) → Distinct ns → on
 unfolding Distinct
 distinct-push ns u d f j k lj lk e =
     let len = length-push ns u in
-    elim (cases-lt j (length ns))
-      [ inl p ↦
-        elim (cases-lt k (length ns))
-          [ inl q ↦ d j k p q (sym (getD-append-left ns (u ∷ []) [] j p) ∙ e ∙ getD-append-left ns (u ∷ []) [] k q)
-          | inr q ↦ absurd (not-seen ns u f j p (sym (getD-append-left ns (u ∷ []) [] j p) ∙ e ∙ getD-push ns u [] k (omega (arith, len)))) ]
+    elim (cases-lt j (length ns)) [
+      | inl p ↦
+          elim (cases-lt k (length ns)) [
+            | inl q ↦ d j k p q (sym (getD-append-left ns (u ∷ []) [] j p) ∙ e ∙ getD-append-left ns (u ∷ []) [] k q)
+            | inr q ↦ absurd (not-seen ns u f j p (sym (getD-append-left ns (u ∷ []) [] j p) ∙ e ∙ getD-push ns u [] k (omega (arith, len))))
+          ]
       | inr p ↦
-        elim (cases-lt k (length ns))
-          [ inl q ↦ absurd (not-seen ns u f k q (sym (getD-append-left ns (u ∷ []) [] k q) ∙ sym e ∙ getD-push ns u [] j (omega (arith, len))))
-          | inr q ↦ omega (arith, len) ] ]
+          elim (cases-lt k (length ns)) [
+            | inl q ↦ absurd (not-seen ns u f k q (sym (getD-append-left ns (u ∷ []) [] k q) ∙ sym e ∙ getD-push ns u [] j (omega (arith, len))))
+            | inr q ↦ omega (arith, len)
+          ]
+    ]
 
 -- the line begins with the word own
 own-key : (k : Option Keyword) → is-own k ≡ true → k ≡ Some Own
@@ -138,9 +161,10 @@ own-key (Some Lanes) h = let z : _≡_ {A = ℕ} 0 1 = cc in absurd (omega arith
 pub own-begins : (text : List ℕ) → is-own (key-at text 0) ≡ true → (text ≡ codes "own" ++ drop 3 text) × Apart (drop 3 text)
 own-begins text h =
     let w : word-part text 0 ≡ codes "own" = key-sound (word-part text 0) Own (own-key (key-at text 0) h) in
-    let n : run-of word-byte text ≡ 3 = sym (run-length word-byte text 0) ∙ ap length w in
-    (sym (take-append-drop (run-of word-byte text) text) ∙ ap (λ t. t ++ drop (run-of word-byte text) text) w ∙ ap (λ m. codes "own" ++ drop m text) n,
-     ap (λ m. word-byte (getD (drop m text) 0 0)) (sym n) ∙ run-apart word-byte refl text)
+    let n : run-of word-byte text ≡ 3 = sym (run-length word-byte text 0) ∙ ap length w in (
+      sym (take-append-drop (run-of word-byte text) text) ∙ ap (λ t. t ++ drop (run-of word-byte text) text) w ∙ ap (λ m. codes "own" ++ drop m text) n,
+      ap (λ m. word-byte (getD (drop m text) 0 0)) (sym n) ∙ run-apart word-byte refl text,
+    )
 
 -- the state of the walk over the names
 pub record Walk (text : List ℕ) (seen : List (List ℕ)) (i : ℕ) : Type 0 where
@@ -158,9 +182,13 @@ pub walk-on : (text : List ℕ) (seen : List (List ℕ)) (i j e : ℕ) → Walk 
 walk-on text seen i j e w b n =
     let x = name-sound seen text j e n in
     let s = bytes-sound text (codes " ") i j b in
-    record { names = each-push Is-name seen (word-part text j) (w .names) (x .name); distinct = distinct-push seen (word-part text j) (w .distinct) (x .fresh);
+    record {
+      names = each-push Is-name seen (word-part text j) (w .names) (x .name);
+      distinct = distinct-push seen (word-part text j) (w .distinct) (x .fresh);
       few = omega (arith, length-push seen (word-part text j), x .room);
-      here = w .here ∙ ap (λ t. spaced seen ++ t) (s .0 ∙ ap (λ t. 32 ∷ t) (x .here)) ∙ sym (spaced-push seen (word-part text j) (drop e text)); apart = x .apart }
+      here = w .here ∙ ap (λ t. spaced seen ++ t) (s .0 ∙ ap (λ t. 32 ∷ t) (x .here)) ∙ sym (spaced-push seen (word-part text j) (drop e text));
+      apart = x .apart;
+    }
 
 pub walk-words : (text : List ℕ) (seen : List (List ℕ)) (i : ℕ) → Walk text seen i → Words seen
 walk-words text seen i w k l = w .names k l .bytes
@@ -185,27 +213,28 @@ names-sound text (suc n) seen i f w h =
     let p = then-parts (bytes-at text (codes " ") i) _ f h in
     let q = then-parts (name-at seen text (p .0)) _ f (p .2) in
     let v = walk-on text seen i (p .0) (q .0) w (p .1) (q .1) in
-    elim (cond-cases (eqb (getD text (q .0) 0) 10) _ _ (Ok f) (q .2))
-      [ inl c ↦ subst (Line-of text) (same-ok _ f (c .1)) (line-of text (seen ++ (word-part text (p .0) ∷ [])) (q .0) v (omega (arith, length-push seen (word-part text (p .0)))) (c .0))
-      | inr c ↦ names-sound text n (seen ++ (word-part text (p .0) ∷ [])) (q .0) f v (c .1) ]
+    elim (cond-cases (eqb (getD text (q .0) 0) 10) _ _ (Ok f) (q .2)) [
+      | inl c ↦ subst (Line-of text) (same-ok _ f (c .1)) (line-of text (seen ++ (word-part text (p .0) ∷ [])) (q .0) v (omega (arith, length-push seen (word-part text (p .0)))) (c .0))
+      | inr c ↦ names-sound text n (seen ++ (word-part text (p .0) ∷ [])) (q .0) f v (c .1)
+    ]
 
 names-on-at : (text : List ℕ) (m : ℕ) (seen : List (List ℕ)) (i j e : ℕ) → 0 < m → Ok j ≡ bytes-at text (codes " ") i → Ok e ≡ name-at seen text j → (getD text e 0 ≡ 10 → ⊥)
-  → names-at text (m - 1) (seen ++ (word-part text j ∷ [])) e ≡ names-at text m seen i
+    → names-at text (m - 1) (seen ++ (word-part text j ∷ [])) e ≡ names-at text m seen i
 names-on-at text m seen i j e h b n t =
     (let x : names-at text (m - 1) (seen ++ (word-part text j ∷ [])) e ≡ and-then (bytes-at text (codes " ") i) (λ j. and-then (name-at seen text j) (λ e. cond (eqb (getD text e 0) 10) (Ok (record { names = seen ++ (word-part text j ∷ []); next = e + 1 })) (names-at text (m - 1) (seen ++ (word-part text j ∷ [])) e)))
-           = rw (sym b, sym n, ne-eqb (getD text e 0) 10 t) refl in x)
+    = rw (sym b, sym n, ne-eqb (getD text e 0) 10 t) refl in x)
     ∙ names-step text m seen i h
 
 pub names-end : (text : List ℕ) (m : ℕ) (seen : List (List ℕ)) (i j e : ℕ) → 0 < m → Ok j ≡ bytes-at text (codes " ") i → Ok e ≡ name-at seen text j → getD text e 0 ≡ 10
-  → Ok (record { names = seen ++ (word-part text j ∷ []); next = e + 1 }) ≡ names-at text m seen i
+    → Ok (record { names = seen ++ (word-part text j ∷ []); next = e + 1 }) ≡ names-at text m seen i
 names-end text m seen i j e h b n t =
     (let x : Ok (record { names = seen ++ (word-part text j ∷ []); next = e + 1 }) ≡ and-then (bytes-at text (codes " ") i) (λ j. and-then (name-at seen text j) (λ e. cond (eqb (getD text e 0) 10) (Ok (record { names = seen ++ (word-part text j ∷ []); next = e + 1 })) (names-at text (m - 1) (seen ++ (word-part text j ∷ [])) e)))
-           = rw (sym b, sym n, eq-eqb (getD text e 0) 10 t) refl in x)
+    = rw (sym b, sym n, eq-eqb (getD text e 0) 10 t) refl in x)
     ∙ names-step text m seen i h
 
 -- one step of the loop
 pub names-on : (text : List ℕ) (m : ℕ) (seen : List (List ℕ)) (i j e : ℕ) → m ≤ 64 → Ok j ≡ bytes-at text (codes " ") i → Ok e ≡ name-at seen text j → (getD text e 0 ≡ 10 → ⊥)
-  → names-at text (66 - (m + 1)) (seen ++ (word-part text j ∷ [])) e ≡ names-at text (66 - m) seen i
+    → names-at text (66 - (m + 1)) (seen ++ (word-part text j ∷ [])) e ≡ names-at text (66 - m) seen i
 names-on text m seen i j e h b n t =
     let q : 66 - (m + 1) ≡ (66 - m) - 1 = omega arith in
     rw q (names-on-at text (66 - m) seen i j e (omega arith) b n t)

@@ -59,9 +59,10 @@ module _ (text : List ℕ) (seen : List (List ℕ)) (z u : List ℕ) (i k : ℕ)
     seen-found q = sym (sym (l .1) ∙ ap (λ ms. one-of ms u) (drop-more seen k [] h) ∙ one-here (getD seen k []) (drop (k + 1) seen) u (sym name-is ∙ q))
 
     pub seen-on : (take (e - (i + 1)) (drop (i + 1) text) ≡ u → ⊥) → Left text seen z u e (k + 1)
-    seen-on q =
-        (ap (λ m. drop m text) end-is ∙ past text (i + 1) (getD seen k []) _ name-here,
-         sym (one-later (getD seen k []) (drop (k + 1) seen) u (λ p. q (name-is ∙ p))) ∙ ap (λ ms. one-of ms u) (sym (drop-more seen k [] h)) ∙ l .1)
+    seen-on q = (
+      ap (λ m. drop m text) end-is ∙ past text (i + 1) (getD seen k []) _ name-here,
+      sym (one-later (getD seen k []) (drop (k + 1) seen) u (λ p. q (name-is ∙ p))) ∙ ap (λ ms. one-of ms u) (sym (drop-more seen k [] h)) ∙ l .1,
+    )
 
 pub seen-none : (text : List ℕ) (seen : List (List ℕ)) (z u : List ℕ) (i k : ℕ) → Left text seen z u i k → length seen ≤ k → false ≡ one-of seen u
 seen-none text seen z u i k l h = sym (sym (l .1) ∙ ap (λ ms. one-of ms u) (drop-all k seen h) ∙ one-none u)

@@ -76,8 +76,15 @@ owned-some text f b l =
     let e2 : text ≡ (codes "own" ++ spaced ns) ++ (10 ∷ drop (f .next) text) = b ∙ ap (λ t. codes "own" ++ t) (l .here) in
     let o = one-line text 0 (f .next) (codes "own" ++ spaced ns) (omega (arith, lines-append (codes "own") (spaced ns), own-free, spaced-free ns (l .names))) (omega (arith, length-append (codes "own") (spaced ns), spaced-few ns (l .names), l .few)) e2 in
     let pos : 0 < f .next = elim (cases-lt 0 (f .next)) [ inl q ↦ q | inr q ↦ absurd (let z : f .next ≡ 0 = omega arith in omega (arith, ap length e2, length-append (codes "own" ++ spaced ns) (10 ∷ drop (f .next) text), ap (λ m. length (drop m text)) z)) ] in
-    record { names-in = record { line = part; rest = drop (f .next) text; whole = e; own-line = inr (ne, refl); names = l .names; few = l .few; missing = λ q _. ne q };
-      distinct = l .distinct; part = part; line = inr (ne, refl); here = e; count = rw (lt-ltb 0 (f .next) pos) (omega (arith, o .count)); short = o .short }
+    record {
+      names-in = record { line = part; rest = drop (f .next) text; whole = e; own-line = inr (ne, refl); names = l .names; few = l .few; missing = λ q _. ne q };
+      distinct = l .distinct;
+      part = part;
+      line = inr (ne, refl);
+      here = e;
+      count = rw (lt-ltb 0 (f .next) pos) (omega (arith, o .count));
+      short = o .short;
+    }
 
 no-own : (text : List ℕ) → is-own (key-at text 0) ≡ false → take 4 text ≡ codes "own " → ⊥
 unfolding each-byte
@@ -90,15 +97,23 @@ no-own text h t =
 owned-none : (text : List ℕ) → is-own (key-at text 0) ≡ false → Owned text (record { names = []; next = 0 })
 unfolding Distinct
 owned-none text h =
-    record { names-in = record { line = []; rest = text; whole = refl; own-line = inl (refl, refl); names = λ k l. absurd (omega arith); few = omega arith; missing = λ _ t. no-own text h t };
-      distinct = λ j k lj lk e. absurd (omega arith); part = []; line = inl (refl, refl); here = refl; count = omega arith; short = refl }
+    record {
+      names-in = record { line = []; rest = text; whole = refl; own-line = inl (refl, refl); names = λ k l. absurd (omega arith); few = omega arith; missing = λ _ t. no-own text h t };
+      distinct = λ j k lj lk e. absurd (omega arith);
+      part = [];
+      line = inl (refl, refl);
+      here = refl;
+      count = omega arith;
+      short = refl;
+    }
 
 pub own-sound : (text : List ℕ) (f : Found) → own-at text ≡ Ok f → Owned text f
 unfolding own-at
 own-sound text f e =
-    elim (cond-cases (is-own (key-at text 0)) _ _ (Ok f) e)
-      [ inl p ↦ owned-some text f (own-begins text (p .0) .0) (names-sound text 66 [] 3 f (walk-start text (p .0)) (p .1))
-      | inr p ↦ subst (Owned text) (same-ok _ f (p .1)) (owned-none text (p .0)) ]
+    elim (cond-cases (is-own (key-at text 0)) _ _ (Ok f) e) [
+      | inl p ↦ owned-some text f (own-begins text (p .0) .0) (names-sound text 66 [] 3 f (walk-start text (p .0)) (p .1))
+      | inr p ↦ subst (Owned text) (same-ok _ f (p .1)) (owned-none text (p .0))
+    ]
 
 -- the line with the number of cells
 pub record Celled (text : List ℕ) (i : ℕ) (h : Head) : Type 0 where
@@ -114,7 +129,7 @@ unfolding lines-in
 cells-free = refl
 
 celled : (text : List ℕ) (i j n : ℕ) → bytes-at text (codes "cells ") i ≡ Ok j → digit (getD text j 0) ≡ true → number-part text j ≤ 16384 → (j + run-of digit (drop j text)) - i ≤ 1024
-  → bytes-at text (codes "\n") (j + run-of digit (drop j text)) ≡ Ok n → Celled text i (record { many = number-part text j; next = n })
+    → bytes-at text (codes "\n") (j + run-of digit (drop j text)) ≡ Ok n → Celled text i (record { many = number-part text j; next = n })
 celled text i j n b d m s x =
     let p = bytes-sound text (codes "cells ") i j b in
     let q = bytes-sound text (codes "\n") (j + run-of digit (drop j text)) n x in
@@ -123,22 +138,38 @@ celled text i j n b d m s x =
     let r : 1 ≤ run-of digit (drop j text) = run-some digit text j refl d in
     let e : drop i text ≡ codes "cells " ++ (u ++ (10 ∷ drop n text)) = p .0 ∙ ap (λ t. codes "cells " ++ t) (run-splits digit text j ∙ ap (λ t. u ++ t) (q .0)) in
     let o = one-line text i n (codes "cells " ++ u) (omega (arith, lines-append (codes "cells ") u, cells-free, digit-lines u (run-each digit (drop j text)))) (omega (arith, length-append (codes "cells ") u, p .1))
-          (e ∙ sym (append-assoc (codes "cells ") u (10 ∷ drop n text))) in
-    record { part = codes "cells " ++ (u ++ (10 ∷ [])); line = inr (u, record { some = omega arith; bytes = run-each digit (drop j text); value = refl }, refl); few = m;
-      here = e ∙ ap (λ t. codes "cells " ++ t) (sym (append-assoc u (10 ∷ []) (drop n text))); count = rw (lt-ltb i n (omega (arith, p .1, q .1))) (omega (arith, o .count)); short = o .short }
+    (e ∙ sym (append-assoc (codes "cells ") u (10 ∷ drop n text))) in
+    record {
+      part = codes "cells " ++ (u ++ (10 ∷ []));
+      line = inr (u, record { some = omega arith; bytes = run-each digit (drop j text); value = refl }, refl);
+      few = m;
+      here = e ∙ ap (λ t. codes "cells " ++ t) (sym (append-assoc u (10 ∷ []) (drop n text)));
+      count = rw (lt-ltb i n (omega (arith, p .1, q .1))) (omega (arith, o .count));
+      short = o .short;
+    }
 
 pub cells-sound : (text : List ℕ) (i : ℕ) (h : Head) → cells-at text i ≡ Ok h → Celled text i h
 unfolding cells-at
 cells-sound text i h e =
-    elim (cond-cases (is-cells (key-at text i)) _ _ (Ok h) e)
-      [ inr p ↦ subst (Celled text i) (same-ok _ h (p .1)) (record { part = []; line = inl (refl, refl); few = omega arith; here = refl; count = rw (le-ltb i i (omega arith)) (omega arith); short = refl })
+    elim (cond-cases (is-cells (key-at text i)) _ _ (Ok h) e) [
+      | inr p ↦ subst (Celled text i) (same-ok _ h (p .1)) (record { part = []; line = inl (refl, refl); few = omega arith; here = refl; count = rw (le-ltb i i (omega arith)) (omega arith); short = refl })
       | inl p ↦
-        let a = then-parts (bytes-at text (codes "cells ") i) _ h (p .1) in
-        elim (cond-cases (digit (getD text (a .0) 0)) _ _ (Ok h) (a .2)) [ inr d ↦ absurd (not-err _ h (d .1)) | inl d ↦
-        elim (cond-cases (ltb 16384 (number-part text (a .0))) _ _ (Ok h) (d .1)) [ inl m ↦ absurd (not-err _ h (m .1)) | inr m ↦
-        elim (cond-cases (ltb 1024 ((a .0 + run-of digit (drop (a .0) text)) - i)) _ _ (Ok h) (m .1)) [ inl s ↦ absurd (not-err _ h (s .1)) | inr s ↦
-          let b = then-parts (bytes-at text (codes "\n") (a .0 + run-of digit (drop (a .0) text))) _ h (s .1) in
-          subst (Celled text i) (same-ok _ h (b .2)) (celled text i (a .0) (b .0) (a .1) (d .0) (ltb-false 16384 _ (m .0)) (ltb-false 1024 _ (s .0)) (b .1)) ] ] ] ]
+          let a = then-parts (bytes-at text (codes "cells ") i) _ h (p .1) in
+          elim (cond-cases (digit (getD text (a .0) 0)) _ _ (Ok h) (a .2)) [
+            | inr d ↦ absurd (not-err _ h (d .1))
+            | inl d ↦
+                elim (cond-cases (ltb 16384 (number-part text (a .0))) _ _ (Ok h) (d .1)) [
+                  | inl m ↦ absurd (not-err _ h (m .1))
+                  | inr m ↦
+                      elim (cond-cases (ltb 1024 ((a .0 + run-of digit (drop (a .0) text)) - i)) _ _ (Ok h) (m .1)) [
+                        | inl s ↦ absurd (not-err _ h (s .1))
+                        | inr s ↦
+                            let b = then-parts (bytes-at text (codes "\n") (a .0 + run-of digit (drop (a .0) text))) _ h (s .1) in
+                            subst (Celled text i) (same-ok _ h (b .2)) (celled text i (a .0) (b .0) (a .1) (d .0) (ltb-false 16384 _ (m .0)) (ltb-false 1024 _ (s .0)) (b .1))
+                      ]
+                ]
+          ]
+    ]
 
 -- the whole text
 whole-is : (g : Ending) (s e : Stop) → whole-as g s ≡ Ok e → (e ≡ s) × (g ≡ Text)
@@ -156,7 +187,7 @@ few-heads : (a b : ℕ) → head-lines a b ≤ 2
 few-heads a b = two (ltb 0 a) (ltb a b)
 
 read-made : (text : List ℕ) (f : Found) (h : Head) (s : Stop) → Owned text f → Celled text (f .next) h → s .ending ≡ Text
-  → block-at (place-in (f .names)) text 1025 16 (1024 - head-lines (f .next) (h .next)) (h .next) false ≡ Ok s → Read-as text (shape-of f h s)
+    → block-at (place-in (f .names)) text 1025 16 (1024 - head-lines (f .next) (h .next)) (h .next) false ≡ Ok s → Read-as text (shape-of f h s)
 unfolding lines-within
 read-made text f h s w c g b =
     let ns : List (List ℕ) = f .names in
@@ -170,11 +201,27 @@ read-made text f h s w c g b =
     let total : lines-in text ≡ head-lines (f .next) (h .next) + lines-in (drop (h .next) text) = omega (arith, w .count, c .count) in
     let all : lines-in text + s .left ≡ 1024 = omega (arith, total, x .count, n0, k2) in
     let p : Program = record { body = x .body; owns = length ns; shared = h .many } in
-    let sp : Spelled (Named ns) ns p text = record { own-part = w .part; cells-part = c .part; body-part = drop (h .next) text; whole = w .here ∙ ap (λ t. w .part ++ t) (c .here); owned = refl; own-line = w .line; cells-line = c .line; names = w .names-in .names;
-          body = subst (Spells-body (Named ns) (x .body)) (sym body) (x .spells) } in
-    record { names = ns; program = p;
+    let sp : Spelled (Named ns) ns p text = record {
+      own-part = w .part;
+      cells-part = c .part;
+      body-part = drop (h .next) text;
+      whole = w .here ∙ ap (λ t. w .part ++ t) (c .here);
+      owned = refl;
+      own-line = w .line;
+      cells-line = c .line;
+      names = w .names-in .names;
+      body = subst (Spells-body (Named ns) (x .body)) (sym body) (x .spells);
+    } in
+    record {
+      names = ns;
+      program = p;
       taken = record { spelled = sp; distinct = w .distinct; few-names = w .names-in .few; few-cells = c .few; fits = x .fits; few-lines = omega (arith, all); short = w .short ∙ c .short ∙ x .short ∙ ap (λ t. lines-within 1024 0 t) z2; shallow = x .shallow };
-      owns = refl; cells = refl; lines = omega (arith, all); body = sp .body; first = total }
+      owns = refl;
+      cells = refl;
+      lines = omega (arith, all);
+      body = sp .body;
+      first = total;
+    }
 
 -- what the code has found, and what is read
 counted-ok : (r : Result Found Refusal) (own : Head) → Ok own ≡ counted r → (f : Found) × (r ≡ Ok f) × (own .next ≡ f .next) × (own .many ≡ length (f .names))
@@ -218,7 +265,7 @@ module _ (text : List ℕ) where
       ke = ek ∙ ap (λ m. head-lines m (h .next)) fn
 
       block-is : (r : Result Stop Refusal) → ((ns : List (List ℕ)) (g : ℕ) → Names-in ns text → 1024 - k < g → r ≡ block-at (place-in ns) text g 16 (1024 - k) (h .next) false)
-        → block-at (place-in (f .names)) text 1025 16 (1024 - head-lines (f .next) (h .next)) (h .next) false ≡ r
+          → block-at (place-in (f .names)) text 1025 16 (1024 - head-lines (f .next) (h .next)) (h .next) false ≡ r
       block-is r b = sym (b (f .names) 1025 (own-sound text f fe .names-in) (omega arith) ∙ ap (λ m. block-at (place-in (f .names)) text 1025 16 (1024 - m) (h .next) false) ke)
 
       pub break-stop : (d : Refusal) → ((ns : List (List ℕ)) (g : ℕ) → Names-in ns text → 1024 - k < g → Err d ≡ block-at (place-in ns) text g 16 (1024 - k) (h .next) false) → Err d ≡ read-at text

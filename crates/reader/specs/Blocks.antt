@@ -85,8 +85,8 @@ abbrev pub by-kind : (ℕ → ℕ → ℕ → Bool → Result Stop Refusal) → 
 by-kind go deep left i some Plain n = go deep (left - 1) n true
 by-kind go deep left i some Opens n =
     and-then (go (deep - 1) (left - 1) n false) (λ s.
-      cond (is-else (s .ending)) (and-then (go (deep - 1) (s .left) (s .next) false) (λ t. and-then (must-end t) (λ e. go deep (e .left) (e .next) true)))
-        (and-then (must-end s) (λ e. go deep (e .left) (e .next) true)))
+    cond (is-else (s .ending)) (and-then (go (deep - 1) (s .left) (s .next) false) (λ t. and-then (must-end t) (λ e. go deep (e .left) (e .next) true)))
+    (and-then (must-end s) (λ e. go deep (e .left) (e .next) true)))
 by-kind go deep left i some Loops n = and-then (go (deep - 1) (left - 1) n false) (λ s. and-then (must-loop s) (λ e. go deep (e .left) (e .next) true))
 by-kind go deep left i some Parts n = Ok (record { ending = Else; some = some; pos = i; next = n; left = left - 1 })
 by-kind go deep left i some Closes n = Ok (record { ending = End; some = some; pos = i; next = n; left = left - 1 })
@@ -95,4 +95,4 @@ unfoldable pub block-at : (List ℕ → Option ℕ) → List ℕ → ℕ → ℕ
 block-at find text zero deep left i some = Err (Shape i)
 block-at find text (suc f) deep left i some =
     cond (leb (length text) i) (Ok (record { ending = Text; some = some; pos = i; next = i; left = left }))
-      (and-then (next-at find text deep left i) (λ l. by-kind (block-at find text f) deep left i some (kind-of (l .line)) (l .next)))
+    (and-then (next-at find text deep left i) (λ l. by-kind (block-at find text f) deep left i some (kind-of (l .line)) (l .next)))

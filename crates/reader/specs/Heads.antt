@@ -66,11 +66,11 @@ is-cells (Some Lanes) = false
 unfoldable pub name-at : List (List ℕ) → List ℕ → ℕ → Result ℕ Refusal
 name-at seen text i =
     cond (letter (getD text i 0))
-      (cond (leb 9 (run-of word-byte (drop i text))) (Err (Shape (i + 8)))
-        (cond (is-key (key-at text i)) (Err (Shape (i + run-of word-byte (drop i text))))
-          (cond (one-of seen (word-part text i)) (Err (Twice i))
-            (cond (leb 64 (length seen)) (Err (ManyNames i)) (Ok (i + run-of word-byte (drop i text)))))))
-      (Err (Shape i))
+    (cond (leb 9 (run-of word-byte (drop i text))) (Err (Shape (i + 8)))
+    (cond (is-key (key-at text i)) (Err (Shape (i + run-of word-byte (drop i text))))
+    (cond (one-of seen (word-part text i)) (Err (Twice i))
+    (cond (leb 64 (length seen)) (Err (ManyNames i)) (Ok (i + run-of word-byte (drop i text)))))))
+    (Err (Shape i))
 
 -- The names, and the byte at which the next line begins.
 pub record Found : Type 0 where
@@ -82,7 +82,7 @@ unfoldable pub names-at : List ℕ → ℕ → List (List ℕ) → ℕ → Resul
 names-at text zero seen i = Err (Shape i)
 names-at text (suc n) seen i =
     and-then (bytes-at text (codes " ") i) (λ j. and-then (name-at seen text j) (λ e.
-      cond (eqb (getD text e 0) 10) (Ok (record { names = seen ++ (word-part text j ∷ []); next = e + 1 })) (names-at text n (seen ++ (word-part text j ∷ [])) e)))
+    cond (eqb (getD text e 0) 10) (Ok (record { names = seen ++ (word-part text j ∷ []); next = e + 1 })) (names-at text n (seen ++ (word-part text j ∷ [])) e)))
 
 unfoldable pub own-at : List ℕ → Result Found Refusal
 own-at text = cond (is-own (key-at text 0)) (names-at text 66 [] 3) (Ok (record { names = []; next = 0 }))
@@ -95,10 +95,10 @@ counted (Err e) = Err e
 unfoldable pub cells-at : List ℕ → ℕ → Result Head Refusal
 cells-at text i =
     cond (is-cells (key-at text i))
-      (and-then (bytes-at text (codes "cells ") i) (λ j.
-        cond (digit (getD text j 0))
-          (cond (ltb 16384 (number-part text j)) (Err (ManyCells j))
-            (cond (ltb 1024 ((j + run-of digit (drop j text)) - i)) (Err (Long (i + 1024)))
-              (and-then (bytes-at text (codes "\n") (j + run-of digit (drop j text))) (λ n. Ok (record { many = number-part text j; next = n })))))
-          (Err (Shape j))))
-      (Ok (record { many = 0; next = i }))
+    (and-then (bytes-at text (codes "cells ") i) (λ j.
+    cond (digit (getD text j 0))
+    (cond (ltb 16384 (number-part text j)) (Err (ManyCells j))
+    (cond (ltb 1024 ((j + run-of digit (drop j text)) - i)) (Err (Long (i + 1024)))
+    (and-then (bytes-at text (codes "\n") (j + run-of digit (drop j text))) (λ n. Ok (record { many = number-part text j; next = n })))))
+    (Err (Shape j))))
+    (Ok (record { many = 0; next = i }))

@@ -50,5 +50,5 @@ shape-of f h e = record { owns = length (f .names); cells = h .many; lines = 102
 unfoldable pub read-at : List ℕ → Result Shape Refusal
 read-at text =
     and-then (own-at text) (λ f. and-then (cells-at text (f .next)) (λ h.
-      and-then (block-at (place-in (f .names)) text 1025 16 (1024 - head-lines (f .next) (h .next)) (h .next) false) (λ s.
-        and-then (whole s) (λ e. Ok (shape-of f h e)))))
+    and-then (block-at (place-in (f .names)) text 1025 16 (1024 - head-lines (f .next) (h .next)) (h .next) false) (λ s.
+    and-then (whole s) (λ e. Ok (shape-of f h e)))))

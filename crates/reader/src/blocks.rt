@@ -65,7 +65,11 @@ fn next_line(text: &[u8], pos: usize, left: usize, deep: usize) -> Result<Lined,
         return match lined {
             Ok(_) => Err(Refusal::ManyLines(pos)),
             Err(refusal) => {
-                if refusal_place(refusal) == pos { Err(refusal) } else { Err(Refusal::ManyLines(pos)) }
+                if refusal_place(refusal) == pos {
+                    Err(refusal)
+                } else {
+                    Err(Refusal::ManyLines(pos))
+                }
             }
         };
     }
@@ -125,7 +129,11 @@ fn must_loop(stop: Stop) -> Result<Stop, Refusal>
         Ending::Text => Err(Refusal::Shape(stop.pos)),
         Ending::Else => Err(Refusal::Shape(stop.next.saturating_sub(1))),
         Ending::End => {
-            if stop.some { Ok(stop) } else { Err(Refusal::Shape(stop.next.saturating_sub(1))) }
+            if stop.some {
+                Ok(stop)
+            } else {
+                Err(Refusal::Shape(stop.next.saturating_sub(1)))
+            }
         }
     }
 }
@@ -137,14 +145,32 @@ pub fn block(text: &[u8], pos: usize, left: usize, deep: usize, some: bool) -> R
     ensures walk { λ r. ⌜ ((ns : List (List ℕ)) (f : ℕ) → Names-in ns (now (text .entry)) → left < f → r ≡ block-at (place-in ns) (now (text .entry)) f deep left pos some) ⌝ }
 {
     if pos >= text.len() {
-        return Ok(Stop { ending: Ending::Text, some, pos, next: pos, left });
+        return Ok(Stop {
+            ending: Ending::Text,
+            some,
+            pos,
+            next: pos,
+            left,
+        });
     }
     let lined = next_line(text, pos, left, deep)?;
     let fewer = left - 1;
     match kind_of(lined.line) {
         Kind::Plain => block(text, lined.next, fewer, deep, true),
-        Kind::Parts => Ok(Stop { ending: Ending::Else, some, pos, next: lined.next, left: fewer }),
-        Kind::Closes => Ok(Stop { ending: Ending::End, some, pos, next: lined.next, left: fewer }),
+        Kind::Parts => Ok(Stop {
+            ending: Ending::Else,
+            some,
+            pos,
+            next: lined.next,
+            left: fewer,
+        }),
+        Kind::Closes => Ok(Stop {
+            ending: Ending::End,
+            some,
+            pos,
+            next: lined.next,
+            left: fewer,
+        }),
         Kind::Loops => {
             let body = block(text, lined.next, fewer, deep.saturating_sub(1), false)?;
             let end = must_loop(body)?;

@@ -82,7 +82,11 @@ fn new_name(text: &[u8], i: usize, many: usize) -> Result<usize, Refusal>
     if named_before(text, i, end, many) {
         return Err(Refusal::Twice(i));
     }
-    if many >= 64 { Err(Refusal::ManyNames(i)) } else { Ok(end) }
+    if many >= 64 {
+        Err(Refusal::ManyNames(i))
+    } else {
+        Ok(end)
+    }
 }
 
 // The line that names own numbers, if the text begins with one.
@@ -99,7 +103,10 @@ pub fn own_line(text: &[u8]) -> Result<Head, Refusal>
         end = new_name(text, at, many)?;
         many += 1;
         if byte(text, end) == b'\n' {
-            return Ok(Head { many, next: end + 1 });
+            return Ok(Head {
+                many,
+                next: end + 1,
+            });
         }
     }
 }
@@ -123,5 +130,8 @@ pub fn cells_line(text: &[u8], pos: usize) -> Result<Head, Refusal>
         return Err(Refusal::Long(pos + 1024));
     }
     let next = expect(text, number.end, b"\n")?;
-    Ok(Head { many: number.value as usize, next })
+    Ok(Head {
+        many: number.value as usize,
+        next,
+    })
 }

@@ -13,7 +13,7 @@ pub returns-then-b-eq0 : need.returns-then-b-eq0
 returns-then-b-eq0 c =
     let lt : c .loop-b .b-index < length (c .args .wanted .now) = c .loop-b-test .taken in
     bytes-not (c .args .text .now) (drop (c .loop-b .b-index + 1) (c .args .wanted .now)) (getD (c .args .wanted .now) (c .loop-b .b-index) 0) (c .loop-b .at)
-      (elim (c .then-b-eq0 .came) [ then-b-eq0·by·then-b-eq0 w ↦ inr (w .if-b-eq0 .taken) | then-b-eq0·by·else-b-eq0·then-byte-b w ↦ inl (λ e. w .if-byte-b .taken (w .byte .ensures .is ∙ e)) ])
+    (elim (c .then-b-eq0 .came) [ then-b-eq0·by·then-b-eq0 w ↦ inr (w .if-b-eq0 .taken) | then-b-eq0·by·else-b-eq0·then-byte-b w ↦ inl (λ e. w .if-byte-b .taken (w .byte .ensures .is ∙ e)) ])
     ∙ sym (at-drop-more (λ l. bytes-at (c .args .text .now) l (c .loop-b .at)) (c .args .wanted .now) (c .loop-b .b-index) 0 lt) ∙ c .loop-b .inv
 
 pub loop-b-again : need.loop-b-again

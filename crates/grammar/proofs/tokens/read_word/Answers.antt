@@ -24,10 +24,10 @@ pub returns-in-Some-name-index : need.returns-in-Some-name-index
 returns-in-Some-name-index c ns n =
     let lt : c .args .i < length (c .args .text .now) = c .byte .ensures .within (nonzero letter (c .byte .result) refl (sym (c .if-not-is-letter .ensures tt))) in
     word-is (place-in ns) _ _ _ None (Some (c .in-Some-name-index .k)) (rw (c .byte .ensures .is) at (sym (c .if-not-is-letter .ensures tt))) (c .word-end-end .ensures) (c .if-end-i-gt8 .left) (c .in-rest .ensures tt)
-      (place-is ns _ _ (c .in-Some-name-index .ensures tt (c .word-end-end .ensures .within (omega arith)) ns n))
+    (place-is ns _ _ (c .in-Some-name-index .ensures tt (c .word-end-end .ensures .within (omega arith)) ns n))
 
 pub returns-in-None : need.returns-in-None
 returns-in-None c ns n =
     let lt : c .args .i < length (c .args .text .now) = c .byte .ensures .within (nonzero letter (c .byte .result) refl (sym (c .if-not-is-letter .ensures tt))) in
     word-is (place-in ns) _ _ _ None None (rw (c .byte .ensures .is) at (sym (c .if-not-is-letter .ensures tt))) (c .word-end-end .ensures) (c .if-end-i-gt8 .left) (c .in-rest .ensures tt)
-      (place-is ns _ _ (c .in-None .ensures tt (c .word-end-end .ensures .within (omega arith)) ns n))
+    (place-is ns _ _ (c .in-None .ensures tt (c .word-end-end .ensures .within (omega arith)) ns n))

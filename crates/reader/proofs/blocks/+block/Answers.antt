@@ -21,8 +21,10 @@ returns-in-Break-lined t c =
 pub returns-in-Plain : need.returns-in-Plain
 returns-in-Plain t c =
     let m : 0 < c .args .left = c .in-Continue-lined .ensures tt .more in
-    record { fewer = made-less (c .block .result) (c .args .left - 1) (c .args .left) (omega arith) (c .block .ensures .fewer);
-      walk = λ ns f n h. c .block .ensures .walk ns (f - 1) n (omega arith) ∙ block-kind (place-in ns) (c .args .text .now) (c .args .deep) (c .args .left) (c .args .pos) (c .args .some) f (c .in-Continue-lined .lined) Plain h (omega arith) (c .in-Continue-lined .ensures tt .walk ns n) (c .in-Plain .ensures tt) }
+    record {
+      fewer = made-less (c .block .result) (c .args .left - 1) (c .args .left) (omega arith) (c .block .ensures .fewer);
+      walk = λ ns f n h. c .block .ensures .walk ns (f - 1) n (omega arith) ∙ block-kind (place-in ns) (c .args .text .now) (c .args .deep) (c .args .left) (c .args .pos) (c .args .some) f (c .in-Continue-lined .lined) Plain h (omega arith) (c .in-Continue-lined .ensures tt .walk ns n) (c .in-Plain .ensures tt);
+    }
 
 pub returns-in-Parts : need.returns-in-Parts
 returns-in-Parts t c = record { fewer = omega arith; walk = λ ns f n h. block-kind (place-in ns) (c .args .text .now) (c .args .deep) (c .args .left) (c .args .pos) (c .args .some) f (c .in-Continue-lined .lined) Parts h (omega arith) (c .in-Continue-lined .ensures tt .walk ns n) (c .in-Parts .ensures tt) }
@@ -47,8 +49,10 @@ returns-in-Continue-end t c =
     let m : 0 < c .args .left = c .in-Continue-lined .ensures tt .more in
     let e : c .in-Continue-end .end .left ≡ c .in-Continue-body .body .left = loop-left (c .in-Continue-body .body) (c .in-Continue-end .end) (c .in-Continue-end .ensures tt) in
     let b : c .in-Continue-body .body .left ≤ c .args .left - 1 = c .in-Continue-body .ensures tt .fewer in
-    record { fewer = made-less (c .block-in-Loops-2 .result) (c .in-Continue-end .end .left) (c .args .left) (omega arith) (c .block-in-Loops-2 .ensures .fewer);
-      walk = λ ns f n h. c .block-in-Loops-2 .ensures .walk ns (f - 1) n (omega arith) ∙ then-ok _ _ _ (c .in-Continue-end .ensures tt) ∙ then-ok _ _ _ (c .in-Continue-body .ensures tt .walk ns (f - 1) n (omega arith) ∙ ap (λ d. block-at (place-in ns) (c .args .text .now) (f - 1) d (c .args .left - 1) (c .in-Continue-lined .lined .next) false) (c .saturating-sub .ensures)) ∙ block-kind (place-in ns) (c .args .text .now) (c .args .deep) (c .args .left) (c .args .pos) (c .args .some) f (c .in-Continue-lined .lined) Loops h (omega arith) (c .in-Continue-lined .ensures tt .walk ns n) (c .in-Loops .ensures tt) }
+    record {
+      fewer = made-less (c .block-in-Loops-2 .result) (c .in-Continue-end .end .left) (c .args .left) (omega arith) (c .block-in-Loops-2 .ensures .fewer);
+      walk = λ ns f n h. c .block-in-Loops-2 .ensures .walk ns (f - 1) n (omega arith) ∙ then-ok _ _ _ (c .in-Continue-end .ensures tt) ∙ then-ok _ _ _ (c .in-Continue-body .ensures tt .walk ns (f - 1) n (omega arith) ∙ ap (λ d. block-at (place-in ns) (c .args .text .now) (f - 1) d (c .args .left - 1) (c .in-Continue-lined .lined .next) false) (c .saturating-sub .ensures)) ∙ block-kind (place-in ns) (c .args .text .now) (c .args .deep) (c .args .left) (c .args .pos) (c .args .some) f (c .in-Continue-lined .lined) Loops h (omega arith) (c .in-Continue-lined .ensures tt .walk ns n) (c .in-Loops .ensures tt);
+    }
 
 pub returns-in-Break-first : need.returns-in-Break-first
 returns-in-Break-first t c =
@@ -76,8 +80,10 @@ returns-then-is-else t c =
     let q : c .in-Continue-first .first .left ≤ c .args .left - 1 = c .in-Continue-first .ensures tt .fewer in
     let e : c .in-Continue-last .last .left ≡ c .in-Continue-second .second .left = end-left (c .in-Continue-second .second) (c .in-Continue-last .last) (c .in-Continue-last .ensures tt) in
     let b : c .in-Continue-second .second .left ≤ c .in-Continue-first .first .left = c .in-Continue-second .ensures tt .fewer in
-    record { fewer = made-less (c .block-then-is-else-2 .result) (c .in-Continue-last .last .left) (c .args .left) (omega arith) (c .block-then-is-else-2 .ensures .fewer);
-      walk = λ ns f n h. c .block-then-is-else-2 .ensures .walk ns (f - 1) n (omega arith) ∙ then-ok _ _ _ (c .in-Continue-last .ensures tt) ∙ then-ok _ _ _ (c .in-Continue-second .ensures tt .walk ns (f - 1) n (omega arith) ∙ ap (λ d. block-at (place-in ns) (c .args .text .now) (f - 1) d (c .in-Continue-first .first .left) (c .in-Continue-first .first .next) false) (c .saturating-sub-then-is-else .ensures)) ∙ cond-taken _ _ _ (sym (c .if-is-else .ensures tt)) ∙ then-ok _ _ _ (c .in-Continue-first .ensures tt .walk ns (f - 1) n (omega arith) ∙ ap (λ d. block-at (place-in ns) (c .args .text .now) (f - 1) d (c .args .left - 1) (c .in-Continue-lined .lined .next) false) (c .saturating-sub-in-Opens .ensures)) ∙ block-kind (place-in ns) (c .args .text .now) (c .args .deep) (c .args .left) (c .args .pos) (c .args .some) f (c .in-Continue-lined .lined) Opens h (omega arith) (c .in-Continue-lined .ensures tt .walk ns n) (c .in-Opens .ensures tt) }
+    record {
+      fewer = made-less (c .block-then-is-else-2 .result) (c .in-Continue-last .last .left) (c .args .left) (omega arith) (c .block-then-is-else-2 .ensures .fewer);
+      walk = λ ns f n h. c .block-then-is-else-2 .ensures .walk ns (f - 1) n (omega arith) ∙ then-ok _ _ _ (c .in-Continue-last .ensures tt) ∙ then-ok _ _ _ (c .in-Continue-second .ensures tt .walk ns (f - 1) n (omega arith) ∙ ap (λ d. block-at (place-in ns) (c .args .text .now) (f - 1) d (c .in-Continue-first .first .left) (c .in-Continue-first .first .next) false) (c .saturating-sub-then-is-else .ensures)) ∙ cond-taken _ _ _ (sym (c .if-is-else .ensures tt)) ∙ then-ok _ _ _ (c .in-Continue-first .ensures tt .walk ns (f - 1) n (omega arith) ∙ ap (λ d. block-at (place-in ns) (c .args .text .now) (f - 1) d (c .args .left - 1) (c .in-Continue-lined .lined .next) false) (c .saturating-sub-in-Opens .ensures)) ∙ block-kind (place-in ns) (c .args .text .now) (c .args .deep) (c .args .left) (c .args .pos) (c .args .some) f (c .in-Continue-lined .lined) Opens h (omega arith) (c .in-Continue-lined .ensures tt .walk ns n) (c .in-Opens .ensures tt);
+    }
 
 pub returns-in-Break-end-2 : need.returns-in-Break-end-2
 returns-in-Break-end-2 t c =
@@ -91,5 +97,7 @@ returns-in-Continue-end-2 t c =
     let m : 0 < c .args .left = c .in-Continue-lined .ensures tt .more in
     let q : c .in-Continue-first .first .left ≤ c .args .left - 1 = c .in-Continue-first .ensures tt .fewer in
     let e : c .in-Continue-end-2 .end .left ≡ c .in-Continue-first .first .left = end-left (c .in-Continue-first .first) (c .in-Continue-end-2 .end) (c .in-Continue-end-2 .ensures tt) in
-    record { fewer = made-less (c .block-in-Opens-2 .result) (c .in-Continue-end-2 .end .left) (c .args .left) (omega arith) (c .block-in-Opens-2 .ensures .fewer);
-      walk = λ ns f n h. c .block-in-Opens-2 .ensures .walk ns (f - 1) n (omega arith) ∙ then-ok _ _ _ (c .in-Continue-end-2 .ensures tt) ∙ cond-passed _ _ _ (sym (c .if-is-else .ensures tt)) ∙ then-ok _ _ _ (c .in-Continue-first .ensures tt .walk ns (f - 1) n (omega arith) ∙ ap (λ d. block-at (place-in ns) (c .args .text .now) (f - 1) d (c .args .left - 1) (c .in-Continue-lined .lined .next) false) (c .saturating-sub-in-Opens .ensures)) ∙ block-kind (place-in ns) (c .args .text .now) (c .args .deep) (c .args .left) (c .args .pos) (c .args .some) f (c .in-Continue-lined .lined) Opens h (omega arith) (c .in-Continue-lined .ensures tt .walk ns n) (c .in-Opens .ensures tt) }
+    record {
+      fewer = made-less (c .block-in-Opens-2 .result) (c .in-Continue-end-2 .end .left) (c .args .left) (omega arith) (c .block-in-Opens-2 .ensures .fewer);
+      walk = λ ns f n h. c .block-in-Opens-2 .ensures .walk ns (f - 1) n (omega arith) ∙ then-ok _ _ _ (c .in-Continue-end-2 .ensures tt) ∙ cond-passed _ _ _ (sym (c .if-is-else .ensures tt)) ∙ then-ok _ _ _ (c .in-Continue-first .ensures tt .walk ns (f - 1) n (omega arith) ∙ ap (λ d. block-at (place-in ns) (c .args .text .now) (f - 1) d (c .args .left - 1) (c .in-Continue-lined .lined .next) false) (c .saturating-sub-in-Opens .ensures)) ∙ block-kind (place-in ns) (c .args .text .now) (c .args .deep) (c .args .left) (c .args .pos) (c .args .some) f (c .in-Continue-lined .lined) Opens h (omega arith) (c .in-Continue-lined .ensures tt .walk ns n) (c .in-Opens .ensures tt);
+    }

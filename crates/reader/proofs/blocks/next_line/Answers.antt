@@ -21,5 +21,7 @@ returns-then-blocked c =
 
 pub returns : need.returns
 returns c =
-    record { walk = λ ns n. c .parse-line-lined .ensures .walk ns n ∙ next-go (place-in ns) _ _ _ _ (c .if-left-eq0 .left) (rw (c .key-here .ensures) at (sym (c .if-blocked .ensures tt)));
-      more = made-all _ (c .parse-line-lined .result) (omega arith) }
+    record {
+      walk = λ ns n. c .parse-line-lined .ensures .walk ns n ∙ next-go (place-in ns) _ _ _ _ (c .if-left-eq0 .left) (rw (c .key-here .ensures) at (sym (c .if-blocked .ensures tt)));
+      more = made-all _ (c .parse-line-lined .result) (omega arith);
+    }

@@ -22,22 +22,22 @@ returns-then-not-is-digit c =
 pub returns-then-number-gt16384 : need.returns-then-number-gt16384
 returns-then-number-gt16384 c =
     cells-many (c .args .text .now) (c .args .pos) (rw (c .key-here .ensures) at (sym (c .if-not-is-cells .ensures tt))) _ (c .in-Continue-at .ensures tt) _ _ (rw (c .byte .ensures .is) at (sym (c .if-not-is-digit .ensures tt)))
-      (c .read-number-number .ensures .value) (c .read-number-number .ensures .end) (c .if-number-gt16384 .taken)
+    (c .read-number-number .ensures .value) (c .read-number-number .ensures .end) (c .if-number-gt16384 .taken)
 
 pub returns-then-saturating-sub-gt1024 : need.returns-then-saturating-sub-gt1024
 returns-then-saturating-sub-gt1024 c =
     cells-long (c .args .text .now) (c .args .pos) (rw (c .key-here .ensures) at (sym (c .if-not-is-cells .ensures tt))) _ (c .in-Continue-at .ensures tt) _ _ (rw (c .byte .ensures .is) at (sym (c .if-not-is-digit .ensures tt)))
-      (c .read-number-number .ensures .value) (c .read-number-number .ensures .end) (c .if-number-gt16384 .left) (rw (c .saturating-sub .ensures) at (c .if-saturating-sub-gt1024 .taken))
+    (c .read-number-number .ensures .value) (c .read-number-number .ensures .end) (c .if-number-gt16384 .left) (rw (c .saturating-sub .ensures) at (c .if-saturating-sub-gt1024 .taken))
 
 pub returns-in-Break-next : need.returns-in-Break-next
 returns-in-Break-next c =
     let s : c .read-number-number .result .end - c .args .pos ≤ 1024 = rw (c .saturating-sub .ensures) at (c .if-saturating-sub-gt1024 .left) in
     let p = err-from-errBy (c .from-residual-in-Break-next .result) (c .from-residual-in-Break-next .ensures .1) in
     rw (p .1, p .2) (cells-cut (c .args .text .now) (c .args .pos) (rw (c .key-here .ensures) at (sym (c .if-not-is-cells .ensures tt))) _ (c .in-Continue-at .ensures tt) _ _ (rw (c .byte .ensures .is) at (sym (c .if-not-is-digit .ensures tt)))
-      (c .read-number-number .ensures .value) (c .read-number-number .ensures .end) (c .if-number-gt16384 .left) s _ (c .in-Break-next .ensures tt))
+    (c .read-number-number .ensures .value) (c .read-number-number .ensures .end) (c .if-number-gt16384 .left) s _ (c .in-Break-next .ensures tt))
 
 pub returns : need.returns
 returns c =
     let s : c .read-number-number .result .end - c .args .pos ≤ 1024 = rw (c .saturating-sub .ensures) at (c .if-saturating-sub-gt1024 .left) in
     cells-ok (c .args .text .now) (c .args .pos) (rw (c .key-here .ensures) at (sym (c .if-not-is-cells .ensures tt))) _ (c .in-Continue-at .ensures tt) _ _ (rw (c .byte .ensures .is) at (sym (c .if-not-is-digit .ensures tt)))
-      (c .read-number-number .ensures .value) (c .read-number-number .ensures .end) (c .if-number-gt16384 .left) s _ (c .in-Continue-next .ensures tt)
+    (c .read-number-number .ensures .value) (c .read-number-number .ensures .end) (c .if-number-gt16384 .left) s _ (c .in-Continue-next .ensures tt)

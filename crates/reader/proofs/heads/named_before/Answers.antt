@@ -19,7 +19,7 @@ pub loop-k-again : need.loop-k-again
 loop-k-again c seen z e w a d =
     let lt : c .loop-k .-k < length seen = omega (arith, e, c .loop-k-test .taken) in
     seen-on (c .args .text .now) seen z (between (c .args .from) (c .args .to) (c .args .text .now)) (c .loop-k .at) (c .loop-k .-k) w a (c .loop-k .inv seen z e w a d) lt (c .word-end-end .result) (c .word-end-end .ensures)
-      (not-from-decides _ (matches-decides _ _ _ (c .eq .ensures)) (c .if-eq .left))
+    (not-from-decides _ (matches-decides _ _ _ (c .eq .ensures)) (c .if-eq .left))
 
 pub returns-then-at-text : need.returns-then-at-text
 returns-then-at-text c h k seen z e w a d =
@@ -30,7 +30,7 @@ pub returns-then-eq : need.returns-then-eq
 returns-then-eq c h k seen z e w a d =
     let lt : c .loop-k .-k < length seen = omega (arith, e, c .loop-k-test .taken) in
     seen-found (c .args .text .now) seen z (between (c .args .from) (c .args .to) (c .args .text .now)) (c .loop-k .at) (c .loop-k .-k) w a (c .loop-k .inv seen z e w a d) lt (c .word-end-end .result) (c .word-end-end .ensures)
-      (matches-decides _ _ _ (c .eq .ensures) .0 (c .if-eq .taken))
+    (matches-decides _ _ _ (c .eq .ensures) .0 (c .if-eq .taken))
 
 pub returns : need.returns
 returns c h k seen z e w a d =

@@ -23,16 +23,16 @@ pub returns-then-named-before : need.returns-then-named-before
 returns-then-named-before c seen z e w a d =
     let lt : c .args .i < length (c .args .text .now) = c .byte .ensures .within (nonzero letter (c .byte .result) refl (sym (c .if-not-is-letter .ensures tt))) in
     name-twice seen (c .args .text .now) (c .args .i) _ (rw (c .byte .ensures .is) at (sym (c .if-not-is-letter .ensures tt))) (c .word-end-end .ensures) (c .if-end-i-gt8 .left) (c .in-rest .ensures tt)
-      (c .if-named-before .ensures tt (c .word-end-end .ensures .from) (c .word-end-end .ensures .within (omega arith)) seen z e w a d)
+    (c .if-named-before .ensures tt (c .word-end-end .ensures .from) (c .word-end-end .ensures .within (omega arith)) seen z e w a d)
 
 pub returns-then-many-ge64 : need.returns-then-many-ge64
 returns-then-many-ge64 c seen z e w a d =
     let lt : c .args .i < length (c .args .text .now) = c .byte .ensures .within (nonzero letter (c .byte .result) refl (sym (c .if-not-is-letter .ensures tt))) in
     name-many seen (c .args .text .now) (c .args .i) _ (rw (c .byte .ensures .is) at (sym (c .if-not-is-letter .ensures tt))) (c .word-end-end .ensures) (c .if-end-i-gt8 .left) (c .in-rest .ensures tt)
-      (c .if-named-before .ensures tt (c .word-end-end .ensures .from) (c .word-end-end .ensures .within (omega arith)) seen z e w a d) (omega (arith, e, c .if-many-ge64 .taken))
+    (c .if-named-before .ensures tt (c .word-end-end .ensures .from) (c .word-end-end .ensures .within (omega arith)) seen z e w a d) (omega (arith, e, c .if-many-ge64 .taken))
 
 pub returns-else-many-ge64 : need.returns-else-many-ge64
 returns-else-many-ge64 c seen z e w a d =
     let lt : c .args .i < length (c .args .text .now) = c .byte .ensures .within (nonzero letter (c .byte .result) refl (sym (c .if-not-is-letter .ensures tt))) in
     name-ok seen (c .args .text .now) (c .args .i) _ (rw (c .byte .ensures .is) at (sym (c .if-not-is-letter .ensures tt))) (c .word-end-end .ensures) (c .if-end-i-gt8 .left) (c .in-rest .ensures tt)
-      (c .if-named-before .ensures tt (c .word-end-end .ensures .from) (c .word-end-end .ensures .within (omega arith)) seen z e w a d) (omega (arith, e, c .if-many-ge64 .left))
+    (c .if-named-before .ensures tt (c .word-end-end .ensures .from) (c .word-end-end .ensures .within (omega arith)) seen z e w a d) (omega (arith, e, c .if-many-ge64 .left))

@@ -34,7 +34,7 @@ returns-in-Break-end c =
     let m = c .loop-at .inv .0 in
     let v = c .loop-at .inv .1 in
     rw (p .1, p .2) (ap counted (then-err _ _ _ (c .in-Break-end .ensures tt (v .0) _ (v .1) (walk-words _ _ _ (v .2)) (v .2 .apart) (v .2 .here)) ∙ then-ok _ _ _ (c .in-Continue-at .ensures tt)
-      ∙ names-step (c .args .text .now) (66 - c .loop-at .many) (v .0) (c .loop-at .end) (omega arith) ∙ v .3))
+    ∙ names-step (c .args .text .now) (66 - c .loop-at .many) (v .0) (c .loop-at .end) (omega arith) ∙ v .3))
 
 pub returns-then-byte-eq10 : need.returns-then-byte-eq10
 returns-then-byte-eq10 c =
@@ -49,9 +49,12 @@ loop-at-again c =
     let m = c .loop-at .inv .0 in
     let v = c .loop-at .inv .1 in
     let nm = (c .in-Continue-end .ensures tt (v .0) _ (v .1) (walk-words _ _ _ (v .2)) (v .2 .apart) (v .2 .here)) in
-    let x = name-sound (v .0) (c .args .text .now) (c .in-Continue-at .at) (c .in-Continue-end .end) (sym nm) in
-    (omega (arith, x .room, v .1),
-     (v .0 ++ (word-part (c .args .text .now) (c .in-Continue-at .at) ∷ []),
-      omega (arith, length-push (v .0) (word-part (c .args .text .now) (c .in-Continue-at .at)), v .1),
-      walk-on (c .args .text .now) (v .0) (c .loop-at .end) (c .in-Continue-at .at) (c .in-Continue-end .end) (v .2) (sym (c .in-Continue-at .ensures tt)) (sym nm),
-      names-on (c .args .text .now) (c .loop-at .many) (v .0) (c .loop-at .end) (c .in-Continue-at .at) (c .in-Continue-end .end) m (c .in-Continue-at .ensures tt) nm (λ e. c .if-byte-eq10 .left (c .byte .ensures .is ∙ e)) ∙ v .3))
+    let x = name-sound (v .0) (c .args .text .now) (c .in-Continue-at .at) (c .in-Continue-end .end) (sym nm) in (
+      omega (arith, x .room, v .1),
+      (
+        v .0 ++ (word-part (c .args .text .now) (c .in-Continue-at .at) ∷ []),
+        omega (arith, length-push (v .0) (word-part (c .args .text .now) (c .in-Continue-at .at)), v .1),
+        walk-on (c .args .text .now) (v .0) (c .loop-at .end) (c .in-Continue-at .at) (c .in-Continue-end .end) (v .2) (sym (c .in-Continue-at .ensures tt)) (sym nm),
+        names-on (c .args .text .now) (c .loop-at .many) (v .0) (c .loop-at .end) (c .in-Continue-at .at) (c .in-Continue-end .end) m (c .in-Continue-at .ensures tt) nm (λ e. c .if-byte-eq10 .left (c .byte .ensures .is ∙ e)) ∙ v .3,
+      ),
+    )

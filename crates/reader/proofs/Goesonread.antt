@@ -10,6 +10,7 @@ use Rattle.reader.specs.Goeson.{Goes-on}
 use Rattle.reader.specs.Texts.{read-at}
 use Rattle.reader.specs.declared.texts.Shape.{Shape}
 use Rattle.reader.proofs.Goesonheads.{read-viable}
+use Rattle.reader.proofs.Goesonspelled.{read-right}
 
 pub goes-on : (text : List ℕ) (r : Result Shape Refusal) → r ≡ read-at text → (p : ℕ) → r ≡ Err (No-text p) → Goes-on text p
-goes-on text r w p e = record { before = read-viable text p (sym w ∙ e) }
+goes-on text r w p e = record { before = read-viable text p (sym w ∙ e); not-whole = λ ns q s. read-right text ns q s .shaped p (sym w ∙ e) }

@@ -9,4 +9,5 @@ pub mod Goesonsame
 pub mod Goesonwell
 pub mod Goesonclosed
 pub mod Goesonheads
+pub mod Goesonspelled
 pub mod Goesonread

@@ -2,3 +2,4 @@ mod Loading
 mod Placing
 mod Judging
 mod Planning
+mod Answering

@@ -1,5 +1,6 @@
 // The calls that programs make: a text and a field's bytes, and the lent slices.
 mod load;
 mod told;
+pub mod answer;
 mod judge;
 pub mod plan;

@@ -1,13 +1,14 @@
 -- What a plan gives: slices that are long enough, and a program to start.
+use mathlib.Core.Logic.{inl, inr}
 use mathlib.Core.Path.{_≡_, refl, sym, ap, subst, _∙_}
 use mathlib.Core.List.{List, []}
 use Prim.Native.Nat.{ℕ, _+_, _-_, _*_, _≤_, _<_}
-use native.Mathlib.Nat.{mul-right-comm}
+use native.Mathlib.Nat.{mul-right-comm, not-suc-le-zero}
 use native.Mathlib.Omega.{arith}
 use lib.ListN.{length, getD, take, drop, length-take, length-drop}
 use Rattle.std.proofs.shelf.Lists.{getD-take, getD-drop, length-take-le}
 use Rattle.lanes.specs.Syntax.{Program}
-use Rattle.lanes.specs.Grid.{Grid, Turn, begin}
+use Rattle.lanes.specs.Grid.{Grid, Turn, of, release, begin}
 use Rattle.lanes.specs.Told.{Shows}
 use Rattle.lanes.specs.Told as meaning
 use Rattle.grammar.specs.Taken.{Taken, lines-in}
@@ -21,6 +22,7 @@ use Rattle.store.specs.Layout.{Sized, slots, room as lanes-room, base, cells-ro
 use Rattle.store.specs.Lent.{upto, field-of, Lent}
 use Rattle.store.proofs.Upto.{upto-is, upto-length}
 use Rattle.machine.specs.declared.verdict.Verdict.{Verdict}
+use Rattle.machine.specs.Schedule.{Before, Passed}
 use Rattle.machine.specs.Verdict.{told-of}
 use Rattle.writer.proofs.Heads.{one-program}
 use Rattle.calls.specs.declared.plan.Plan.{Plan}
@@ -107,3 +109,13 @@ pub told-right : (granted : ℕ) (q : Program) (groups n : ℕ) (field cs : List
     Shows granted n (begin q groups n field) ts (told-of v cs) → Judged granted q groups n field (meant told cs)
 told-right granted q groups n field cs v told ts some e s =
     judged granted q groups n field (meant told cs) ts some (subst (λ (x : meaning.Told). Shows granted n (begin q groups n field) ts x) (sym (e (shown-place granted n (begin q groups n field) ts v cs s))) s)
+
+-- there is nothing before the first lane
+pub passed-none : (n : ℕ) (d : Grid) → Passed n d 0 0
+unfolding Passed
+passed-none n d t b = absurd (none t b)
+  where
+    none : (t : Turn) → Before t 0 0 → ⊥
+    none (of h k) (inl x) = not-suc-le-zero x
+    none (of h k) (inr x) = not-suc-le-zero (x .1)
+    none (release h) x = not-suc-le-zero x

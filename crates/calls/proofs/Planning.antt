@@ -20,7 +20,7 @@ use Rattle.formats.specs.declared.sizes.Room.{Room}
 use Rattle.calls.specs.declared.plan.Plan.{Plan}
 use Rattle.calls.specs.declared.plan.Refused.{Refused}
 use Rattle.calls.specs.declared.plan.Refused.the-variants.{Text, Rest}
-use Rattle.calls.specs.Plan.{asked, plan-of, checked, prepared, planned, Plans}
+use Rattle.calls.specs.Plan.{asked, plan-of, checked, prepared, planned, wanted-by, wanted-as, Plans}
 
 module _ (text bytes : List ℕ) (room : Room) where
   pub text-refused : (e : texts.Refusal) → Err e ≡ read-at text → Err (Text e) ≡ planned text bytes room
@@ -67,3 +67,17 @@ plans text bytes room s h u a b c =
       touches-fit = f .touches-fit;
       printed-fit = f .printed-fit;
     }
+
+-- how long the slices have to be
+pub wanted-text : (text bytes : List ℕ) (e : texts.Refusal) → Err e ≡ read-at text → Err (Text e) ≡ wanted-as text bytes
+unfolding wanted-as
+wanted-text text bytes e p = ap (λ (r : Result Shape texts.Refusal). wanted-by r (read-as bytes)) p
+
+pub wanted-field : (text bytes : List ℕ) (s : Shape) (e : fields.Refusal) → Ok s ≡ read-at text → Err e ≡ read-as bytes → Err (Rest e) ≡ wanted-as text bytes
+unfolding wanted-as
+wanted-field text bytes s e p q = ap (λ (f : Result Header fields.Refusal). wanted-by (Ok s) f) q ∙ ap (λ (r : Result Shape texts.Refusal). wanted-by r (read-as bytes)) p
+
+pub wanted-both : (text bytes : List ℕ) (s : Shape) (h : Header) (w : Room) → Ok s ≡ read-at text → Ok h ≡ read-as bytes → w ≡ wanted-for (asked s h) → Ok w ≡ wanted-as text bytes
+unfolding wanted-as
+wanted-both text bytes s h w p q e =
+    ap (λ (x : Room). Ok x) e ∙ (ap (λ (f : Result Header fields.Refusal). wanted-by (Ok s) f) q ∙ ap (λ (r : Result Shape texts.Refusal). wanted-by r (read-as bytes)) p)

@@ -52,6 +52,15 @@ prepared (Ok s) (Ok h) room = checked (check-as (wanted-for (asked s h)) room) (
 unfoldable pub planned : List ℕ → List ℕ → Room → Result Plan Refused
 planned text bytes room = prepared (read-at text) (read-as bytes) room
 
+-- How long the lent slices have to be, or why the text or the field is refused.
+abbrev pub wanted-by : Result Shape texts.Refusal → Result Header fields.Refusal → Result Room Refused
+wanted-by (Err e) f = Err (Text e)
+wanted-by (Ok s) (Err e) = Err (Rest e)
+wanted-by (Ok s) (Ok h) = Ok (wanted-for (asked s h))
+
+unfoldable pub wanted-as : List ℕ → List ℕ → Result Room Refused
+wanted-as text bytes = wanted-by (read-at text) (read-as bytes)
+
 -- What is known of a plan: the text and the field are so, and the slices long enough.
 pub record Plans (text bytes : List ℕ) (room : Room) (p : Plan) : Type 0 where
   pub shape : Shape

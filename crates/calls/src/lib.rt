@@ -4,3 +4,4 @@ mod told;
 pub mod answer;
 mod judge;
 pub mod plan;
+pub mod programs;

@@ -62,6 +62,7 @@ picked-says z at ls cs (GoOn g) q = (q .1, go-passed (z .lanes) (grid-of z at ls
 
 -- a lane that can step is there
 pub step-in : (z : Sizes) (at : ℕ → Body) (ls cs : List ℕ) (g l : ℕ) → can (z .lanes) (grid-of z at ls cs) (of g l) ≡ true → (g < z .groups) × (l < z .lanes)
-step-in z at ls cs g l e =
-    (elim (cases-lt g (z .groups)) [ inl h ↦ h | inr h ↦ absurd (both-ways _ (can-outside z at ls cs g l (inl h)) e) ],
-      elim (cases-lt l (z .lanes)) [ inl h ↦ h | inr h ↦ absurd (both-ways _ (can-outside z at ls cs g l (inr h)) e) ])
+step-in z at ls cs g l e = (
+  elim (cases-lt g (z .groups)) [ inl h ↦ h | inr h ↦ absurd (both-ways _ (can-outside z at ls cs g l (inl h)) e) ],
+  elim (cases-lt l (z .lanes)) [ inl h ↦ h | inr h ↦ absurd (both-ways _ (can-outside z at ls cs g l (inr h)) e) ],
+)

@@ -29,14 +29,22 @@ fn choice_of(steps: &[u32], lines: usize, z: Sizes, lanes: &[u32], turn: Written
             let group = group as usize;
             let start = lane as usize;
             if can_step(steps, lines, z, lanes, group, start) {
-                Some(Choice::Row { group, start, mask: 1 })
+                Some(Choice::Row {
+                    group,
+                    start,
+                    mask: 1,
+                })
             } else {
                 None
             }
         }
         Written::Release { group } => {
             let group = group as usize;
-            if can_go_on(steps, lines, z, lanes, group) { Some(Choice::GoOn { group }) } else { None }
+            if can_go_on(steps, lines, z, lanes, group) {
+                Some(Choice::GoOn { group })
+            } else {
+                None
+            }
         }
     }
 }
@@ -49,7 +57,14 @@ struct Next {
 }
 
 // The first of the written turns, from the given one on, that can be done.
-fn next_written(steps: &[u32], lines: usize, z: Sizes, lanes: &[u32], turns: &[Written], from: usize) -> Option<Next>
+fn next_written(
+    steps: &[u32],
+    lines: usize,
+    z: Sizes,
+    lanes: &[u32],
+    turns: &[Written],
+    from: usize,
+) -> Option<Next>
     requires sized { ⌜ Sized z ⌝ }
     requires fit { ⌜ room z ≤ length (now lanes) ⌝ }
     ensures { λ r. ⌜ ((at : ℕ → Body) (cs : List ℕ) → Runs z at (now (steps .entry)) lines (now (lanes .entry)) → BySome r (Unit {0}) (λ x. Can-do z at (now (lanes .entry)) cs (x .choice))) ⌝ }

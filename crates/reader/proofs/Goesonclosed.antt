@@ -167,6 +167,33 @@ no-lines : Some-lines []
 unfolding Spells-body
 no-lines = record { lines = end; spells = refl }
 
+module _ (text : List ℕ) (find : List ℕ → Option ℕ) where
+  -- the next line
+  many-err : (i p : ℕ) (r : Result Lined Refusal) → too-many i r ≡ Err (Shape p) → r ≡ Err (Shape p)
+  many-err i p (Ok l) e = let z : _≡_ {A = ℕ} 0 1 = cc in absurd (omega arith)
+  many-err i p (Err d) e = elim (cond-cases (eqb (place-of d) i) _ _ (Err (Shape p)) e) [ inl q ↦ q .1 | inr q ↦ let y = q .1 in let z : _≡_ {A = ℕ} 0 1 = cc in absurd (omega arith) ]
+
+  many-ok : (i : ℕ) (x : Lined) (r : Result Lined Refusal) → too-many i r ≡ Ok x → ⊥
+  many-ok i x (Ok l) e = not-err (ManyLines i) x e
+  many-ok i x (Err d) e = elim (cond-cases (eqb (place-of d) i) _ _ (Ok x) e) [ inl q ↦ not-err d x (q .1) | inr q ↦ not-err (ManyLines i) x (q .1) ]
+
+  pub next-err : (deep left i p : ℕ) → next-at find text deep left i ≡ Err (Shape p) → line-at find text i ≡ Err (Shape p)
+  unfolding next-at
+  next-err deep left i p e =
+      elim (cond-cases (eqb left 0) _ _ (Err (Shape p)) e)
+        [ inl q ↦ many-err i p (line-at find text i) (q .1)
+        | inr q ↦ elim (cond-cases (eqb deep 0 && opens (key-at text i)) _ _ (Err (Shape p)) (q .1)) [ inl r ↦ let y = r .1 in let z : _≡_ {A = ℕ} 0 1 = cc in absurd (omega arith) | inr r ↦ r .1 ] ]
+
+  pub next-ok : (deep left i : ℕ) (x : Lined) → next-at find text deep left i ≡ Ok x → (line-at find text i ≡ Ok x) × (0 < left)
+  unfolding next-at
+  next-ok deep left i x e =
+      elim (cond-cases (eqb left 0) _ _ (Ok x) e)
+        [ inl q ↦ absurd (many-ok i x (line-at find text i) (q .1))
+        | inr q ↦
+          let n : (left ≡ 0 → ⊥) = eqb-false left 0 (q .0) in
+          let m : 0 < left = omega arith in
+          elim (cond-cases (eqb deep 0 && opens (key-at text i)) _ _ (Ok x) (q .1)) [ inl r ↦ absurd (not-err (Deep i) x (r .1)) | inr r ↦ (r .1, m) ] ]
+
 module _ (text : List ℕ) (find : List ℕ → Option ℕ) (o : ℕ) (finds : (k : ℕ) (u : List ℕ) → find u ≡ Some k → Any-name k u × (k < o)) where
   -- how a block ended
   abbrev pub Ended-as : Ending → Stop → Type 0
@@ -297,32 +324,6 @@ module _ (text : List ℕ) (find : List ℕ → Option ℕ) (o : ℕ) (finds : (
           (λ p a. close-while i n p g (w .bad p a))
           (λ y a. let k = w .good y a in loop-on (y .ending) i n deep left some y g (k .lines) (k .had) (k .ending) (omega (arith, k .fewer)) (omega (arith, k .fewer)))
 
-  -- the next line
-  many-err : (i p : ℕ) (r : Result Lined Refusal) → too-many i r ≡ Err (Shape p) → r ≡ Err (Shape p)
-  many-err i p (Ok l) e = let z : _≡_ {A = ℕ} 0 1 = cc in absurd (omega arith)
-  many-err i p (Err d) e = elim (cond-cases (eqb (place-of d) i) _ _ (Err (Shape p)) e) [ inl q ↦ q .1 | inr q ↦ let y = q .1 in let z : _≡_ {A = ℕ} 0 1 = cc in absurd (omega arith) ]
-
-  many-ok : (i : ℕ) (x : Lined) (r : Result Lined Refusal) → too-many i r ≡ Ok x → ⊥
-  many-ok i x (Ok l) e = not-err (ManyLines i) x e
-  many-ok i x (Err d) e = elim (cond-cases (eqb (place-of d) i) _ _ (Ok x) e) [ inl q ↦ not-err d x (q .1) | inr q ↦ not-err (ManyLines i) x (q .1) ]
-
-  pub next-err : (deep left i p : ℕ) → next-at find text deep left i ≡ Err (Shape p) → line-at find text i ≡ Err (Shape p)
-  unfolding next-at
-  next-err deep left i p e =
-      elim (cond-cases (eqb left 0) _ _ (Err (Shape p)) e)
-        [ inl q ↦ many-err i p (line-at find text i) (q .1)
-        | inr q ↦ elim (cond-cases (eqb deep 0 && opens (key-at text i)) _ _ (Err (Shape p)) (q .1)) [ inl r ↦ let y = r .1 in let z : _≡_ {A = ℕ} 0 1 = cc in absurd (omega arith) | inr r ↦ r .1 ] ]
-
-  pub next-ok : (deep left i : ℕ) (x : Lined) → next-at find text deep left i ≡ Ok x → (line-at find text i ≡ Ok x) × (0 < left)
-  unfolding next-at
-  next-ok deep left i x e =
-      elim (cond-cases (eqb left 0) _ _ (Ok x) e)
-        [ inl q ↦ absurd (many-ok i x (line-at find text i) (q .1))
-        | inr q ↦
-          let n : (left ≡ 0 → ⊥) = eqb-false left 0 (q .0) in
-          let m : 0 < left = omega arith in
-          elim (cond-cases (eqb deep 0 && opens (key-at text i)) _ _ (Ok x) (q .1)) [ inl r ↦ absurd (not-err (Deep i) x (r .1)) | inr r ↦ (r .1, m) ] ]
-
   walked-cond : (c : Bool) (i : ℕ) (some : Bool) (left : ℕ) (r s : Result Stop Refusal) → (c ≡ true → Walked i some left r) → (c ≡ false → Walked i some left s) → Walked i some left (cond c r s)
   walked-cond true i some left r s a b = a refl
   walked-cond false i some left r s a b = b refl
@@ -333,5 +334,5 @@ module _ (text : List ℕ) (find : List ℕ → Option ℕ) (o : ℕ) (finds : (
   block-walk (suc f) deep left i some l =
       walked-cond (leb (length text) i) i some left _ _
         (λ c. stopped f (block-at find text f) (λ d m n b k. block-walk f d m n b k) Text i i left some (leb-true (length text) i c) left (omega arith))
-        (λ c. walked-then i some left (next-at find text deep left i) _ (λ p e. front-line text find o finds i p (next-err deep left i p e))
-          (λ x e. let q = next-ok deep left i x e in by-line f (block-at find text f) (λ d m n b k. block-walk f d m n b k) (x .line) i (x .next) deep left some (got-line text find o finds i x (q .0)) (q .1) l))
+        (λ c. walked-then i some left (next-at find text deep left i) _ (λ p e. front-line text find o finds i p (next-err text find deep left i p e))
+          (λ x e. let q = next-ok text find deep left i x e in by-line f (block-at find text f) (λ d m n b k. block-walk f d m n b k) (x .line) i (x .next) deep left some (got-line text find o finds i x (q .0)) (q .1) l))

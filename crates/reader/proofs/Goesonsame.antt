@@ -112,7 +112,7 @@ module _ (find : List ℕ → Option ℕ) (text t : List ℕ) where
     if-on Else deep s = second deep s
     if-on End deep s = end-on End deep s
 
-    by-kind-same : (c : Kind) (deep left i n : ℕ) (some : Bool) → Same-read text t stop-of (n - 1) (by-kind go deep left i some c n) (by-kind og deep left i some c n)
+    pub by-kind-same : (c : Kind) (deep left i n : ℕ) (some : Bool) → Same-read text t stop-of (n - 1) (by-kind go deep left i some c n) (by-kind og deep left i some c n)
     by-kind-same Plain deep left i n some = same-from text t stop-of (n - 1) n _ _ (omega arith) (h deep (left - 1) n true)
     by-kind-same Opens deep left i n some =
         same-from text t stop-of (n - 1) n _ _ (omega arith)

@@ -11,3 +11,5 @@ pub mod Goesonclosed
 pub mod Goesonheads
 pub mod Goesonspelled
 pub mod Goesonread
+pub mod Goesonlocal
+pub mod Goesontext

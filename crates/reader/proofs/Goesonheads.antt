@@ -144,19 +144,25 @@ module _ (text : List ℕ) where
     pub spells : Spells-body Any-name body lines
     pub is : t ≡ cells ++ lines
 
-  viable : (ns : List (List ℕ)) (own : List ℕ) (i p : ℕ) → Own-line ns own → ((k : ℕ) → k < length ns → Is-name (getD ns k [])) → text ≡ own ++ drop i text → i ≤ length text → Front text Rest i p → Viable (take p text)
+  -- refused in the text or at its end, and the bytes before it can go on
+  pub record Begun (p : ℕ) : Type 0 where
+    pub within : p ≤ length text
+    pub before : Viable (take p text)
+
+  viable : (ns : List (List ℕ)) (own : List ℕ) (i p : ℕ) → Own-line ns own → ((k : ℕ) → k < length ns → Is-name (getD ns k [])) → text ≡ own ++ drop i text → i ≤ length text → Front text Rest i p → Begun p
   viable ns own i p l names e b f =
       let u : List ℕ = f .upto in
       let all : text ≡ (own ++ u) ++ drop p text = e ∙ ap (λ m. own ++ m) (f .here) ∙ sym (append-assoc own u (drop p text)) in
       let n : length own ≡ i = omega (arith, ap length e, length-append own (drop i text), length-drop i text) in
       let m : length (own ++ u) ≡ p = omega (arith, length-append own u, n, f .end-is) in
       let q : take p text ≡ own ++ u = ap (λ t. take p t) all ∙ take-at (own ++ u) (drop p text) p m in
-      record { rest = f .more; program = record { body = f .is .body; owns = length ns; shared = f .is .shared }; names = ns;
+      record { within = omega (arith, f .end-is, ap length (f .here), length-append u (drop p text), length-drop i text, length-drop p text, b);
+        before = record { rest = f .more; program = record { body = f .is .body; owns = length ns; shared = f .is .shared }; names = ns;
         shape = record { own-part = own; cells-part = f .is .cells; body-part = f .is .lines;
           whole = ap (λ t. t ++ f .more) q ∙ append-assoc own u (f .more) ∙ ap (λ t. own ++ t) (f .is .is);
-          owned = refl; own-line = l; cells-line = f .is .cells-line; names = names; body = f .is .spells } }
+          owned = refl; own-line = l; cells-line = f .is .cells-line; names = names; body = f .is .spells } } }
 
-  names-viable : (p : ℕ) → is-own (key-at text 0) ≡ true → Front text Names 3 p → Viable (take p text)
+  names-viable : (p : ℕ) → is-own (key-at text 0) ≡ true → Front text Names 3 p → Begun p
   unfolding Spells-body
   names-viable p h f =
       let b = own-begins text h .0 in
@@ -164,12 +170,13 @@ module _ (text : List ℕ) where
       let ns : List (List ℕ) = f .is .tail .names in
       let all : text ≡ (codes "own" ++ u) ++ drop p text = b ∙ ap (λ m. codes "own" ++ m) (f .here) in
       let q : take p text ≡ codes "own" ++ u = ap (λ t. take p t) all ∙ take-at (codes "own" ++ u) (drop p text) p (omega (arith, f .end-is)) in
-      record { rest = f .more; program = record { body = end; owns = length ns; shared = 0 }; names = ns;
+      record { within = omega (arith, f .end-is, ap length all, length-append u (drop p text), length-drop p text);
+        before = record { rest = f .more; program = record { body = end; owns = length ns; shared = 0 }; names = ns;
         shape = record { own-part = codes "own" ++ (spaced ns ++ (10 ∷ [])); cells-part = []; body-part = [];
           whole = ap (λ t. t ++ f .more) q ∙ ap (λ t. codes "own" ++ t) (f .is .tail .is) ∙ sym (append-nil (codes "own" ++ (spaced ns ++ (10 ∷ []))));
-          owned = refl; own-line = inr (f .is .some, refl); cells-line = inl (refl, refl); names = f .is .tail .each; body = refl } }
+          owned = refl; own-line = inr (f .is .some, refl); cells-line = inl (refl, refl); names = f .is .tail .each; body = refl } } }
 
-  own-viable : (p : ℕ) → own-at text ≡ Err (Shape p) → Viable (take p text)
+  own-viable : (p : ℕ) → own-at text ≡ Err (Shape p) → Begun p
   unfolding own-at
   own-viable p e =
       elim (cond-cases (is-own (key-at text 0)) _ _ (Err (Shape p)) e)
@@ -304,7 +311,7 @@ module _ (text : List ℕ) where
       let n : s .next - 1 ≡ p = cc in
       rw (sym n) (lines-then text find o finds i (s .pos) (s .next - 1) (g .lines) (word-front text find o finds kw.End (s .pos) (s .next) (rw q at (g .ending))))
 
-  pub read-viable : (p : ℕ) → read-at text ≡ Err (Shape p) → Viable (take p text)
+  pub read-viable : (p : ℕ) → read-at text ≡ Err (Shape p) → Begun p
   unfolding read-at
   read-viable p e =
       elim (then-fails (own-at text) _ (Shape p) e)

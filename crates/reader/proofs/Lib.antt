@@ -10,6 +10,6 @@ pub mod Goesonwell
 pub mod Goesonclosed
 pub mod Goesonheads
 pub mod Goesonspelled
-pub mod Goesonread
 pub mod Goesonlocal
 pub mod Goesontext
+pub mod Goesonread

@@ -26,7 +26,7 @@ use Rattle.grammar.specs.declared.tokens.Word.the-variants as word
 use Rattle.grammar.proofs.Runs.{run-step, run-stop, run-nil}
 use Rattle.grammar.proofs.Sound.{not-err, same-ok}
 
--- both have a byte p, and the same bytes up to it
+-- Both have a byte p, and the same bytes up to it.
 pub record Agree (p : ℕ) (s t : List ℕ) : Type 0 where
   pub bytes : (k : ℕ) → k ≤ p → getD s k 0 ≡ getD t k 0
   pub first : p < length s

@@ -79,10 +79,6 @@ module _ (find : List ℕ → Option ℕ) (text : List ℕ) where
   at-past : (i : ℕ) → drop i text ≡ [] → leb (length text) i ≡ true
   at-past i e = le-leb (length text) i (omega (arith, ap length e, length-drop i text))
 
-  many-right : (i : ℕ) (r : Result Lined Refusal) (P : Lined → Type 0) → Good r P → Good (too-many i r) P
-  many-right i (Ok l) P g = good-other (ManyLines i) P (no-many i)
-  many-right i (Err d) P g = good-cond (eqb (place-of d) i) (Err d) (Err (ManyLines i)) P g (good-other (ManyLines i) P (no-many i))
-
   many-none : (i : ℕ) (r : Result Lined Refusal) (P Q : Lined → Type 0) → Good r P → Good (too-many i r) Q
   many-none i (Ok l) P Q g = good-other (ManyLines i) Q (no-many i)
   many-none i (Err d) P Q g = good-cond (eqb (place-of d) i) (Err d) (Err (ManyLines i)) Q (good-other d Q (λ q e. g .shaped q (ap (λ m. Err m) e))) (good-other (ManyLines i) Q (no-many i))

@@ -8,7 +8,6 @@ fn main(rt: LibcRuntime) -> io::Result<()> {
     let Some(words) = cli::words(&rt, USAGE, 1, 1)? else {
         return Ok(());
     };
-    let _program = cli::read(&rt, words[0].as_str())?;
-    rt.println("refused 1 at 0")?;
-    Err(io::Error::other("not built yet"))
+    let text = cli::read(&rt, words[0].as_str())?;
+    show::rewrite_shown(&rt, text.as_slice())
 }

@@ -1,5 +1,4 @@
 // Runs a program on a field and prints what is told.
-use calls::programs::run_text;
 use std::io;
 
 const USAGE: &str =
@@ -11,15 +10,5 @@ fn main(rt: LibcRuntime) -> io::Result<()> {
     };
     let text = cli::read(&rt, words[0].as_str())?;
     let bytes = cli::read(&rt, words[1].as_str())?;
-    let mut lent = show::lend(&rt, text.as_slice(), bytes.as_slice())?;
-    let answer = run_text(
-        text.as_slice(),
-        bytes.as_slice(),
-        lent.steps.as_mut_slice(),
-        lent.lanes.as_mut_slice(),
-        lent.cells.as_mut_slice(),
-        lent.marks.as_mut_slice(),
-        lent.printed.as_mut_slice(),
-    );
-    show::show(&rt, text.as_slice(), answer, lent.printed.as_slice())
+    show::run_shown(&rt, text.as_slice(), bytes.as_slice())
 }

@@ -3,19 +3,31 @@ ghost use mathlib.Core.Path.{_≡_};
 ghost use Prim.Native.Nat.{_≤_};
 ghost use Rattle.std.specs.Of.Vec.{vec-len};
 ghost use Rattle.std.specs.Vec.{made};
-ghost use Rattle.show.specs.Ends.{Is-field-told};
+ghost use mathlib.Core.Bool.{true};
+ghost use Rattle.std.specs.Results.{isOk};
+ghost use Rattle.std.specs.declared.result.Result.the-variants.{Ok};
+ghost use Rattle.machine.specs.Script.{Script-read};
+ghost use Rattle.reader.specs.Texts.{read-at};
+ghost use Rattle.show.specs.Ends.{Is-field-told, Ends-well};
 use calls::answer::Answer;
 use calls::plan::Refused;
 use calls::plan::number_of;
 use calls::plan::place_of;
+use calls::programs::any_text;
 use calls::programs::room_for;
+use calls::programs::run_text;
 use cli::spot::Spot;
 use cli::spot::spot_of;
 use formats::sizes::Room;
 use formats::told::Told;
+use machine::script::Fault;
+use machine::script::Written;
+use machine::script::read_turns;
 use machine::verdict::Verdict;
+use reader::texts::read;
 use std::io;
 use std::io::Write;
+use writer::anew::rewrite;
 
 // The five slices that are lent.
 #[derive(Drop)]
@@ -121,6 +133,72 @@ pub fn show(rt: &LibcRuntime, text: &[u8], answer: Result<Answer, Refused>, prin
         }
         Err(refused) => {
             show_refused(rt, text, refused)?;
+            Err(io::Error::other("refused"))
+        }
+    }
+}
+
+// Runs the text on the field, one lane after the other.
+pub fn run_shown(rt: &LibcRuntime, text: &[u8], bytes: &[u8]) -> io::Result<()>
+    ensures { λ r. ⌜ made r (λ _. Ends-well (now (text .entry)) (now (bytes .entry))) ⌝ }
+{
+    let mut lent = lend(rt, text, bytes)?;
+    let answer = run_text(
+        text,
+        bytes,
+        lent.steps.as_mut_slice(),
+        lent.lanes.as_mut_slice(),
+        lent.cells.as_mut_slice(),
+        lent.marks.as_mut_slice(),
+        lent.printed.as_mut_slice(),
+    );
+    show(rt, text, answer, lent.printed.as_slice())
+}
+
+// Does the turns that are written down, and then one lane after the other.
+pub fn any_shown(rt: &LibcRuntime, turns: &[Written], text: &[u8], bytes: &[u8]) -> io::Result<()>
+    ensures { λ r. ⌜ made r (λ _. Ends-well (now (text .entry)) (now (bytes .entry))) ⌝ }
+{
+    let mut lent = lend(rt, text, bytes)?;
+    let answer = any_text(
+        turns,
+        text,
+        bytes,
+        lent.steps.as_mut_slice(),
+        lent.lanes.as_mut_slice(),
+        lent.cells.as_mut_slice(),
+        lent.marks.as_mut_slice(),
+        lent.printed.as_mut_slice(),
+    );
+    show(rt, text, answer, lent.printed.as_slice())
+}
+
+// The turns of a file; a line that is none is named on standard error.
+pub fn turns_shown(rt: &LibcRuntime, name: &str, file: &[u8]) -> io::Result<Vec<Written>>
+    ensures { λ r. ⌜ made r (λ v. Script-read (now (file .entry)) (Ok v)) ⌝ }
+{
+    match read_turns(rt.alloc(), file) {
+        Ok(turns) => Ok(turns),
+        Err(Fault::NoTurn { line }) => {
+            eprintln!(rt, "{name}: line {line} is no turn")?;
+            Err(io::Error::other("no turn"))
+        }
+        Err(Fault::NoMemory) => Err(io::Error::other("no memory")),
+    }
+}
+
+// Writes the text anew, or says why it is refused.
+pub fn rewrite_shown(rt: &LibcRuntime, text: &[u8]) -> io::Result<()>
+    ensures { λ r. ⌜ made r (λ _. isOk (read-at (now (text .entry))) ≡ true) ⌝ }
+{
+    match read(text) {
+        Ok(_) => {
+            let mut out = vec![in rt.alloc(); 0u8; text.len()]?;
+            let len = rewrite(text, out.as_mut_slice()).unwrap_or(0).min(out.len());
+            rt.stdout().write_all(&out.as_slice()[0..len])
+        }
+        Err(why) => {
+            show_refused(rt, text, Refused::Text(why))?;
             Err(io::Error::other("refused"))
         }
     }

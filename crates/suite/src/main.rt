@@ -2,6 +2,7 @@
 mod cases;
 mod fields;
 mod prints;
+mod runs;
 mod texts;
 
 use std::io;
@@ -15,5 +16,11 @@ fn main(rt: LibcRuntime) -> io::Result<()> {
     let file = cli::read(&rt, "fields")?;
     let right = fields::run_all(&rt, file.as_slice())?;
     println!(rt, "fields: {right} right")?;
+    let file = cli::read(&rt, "runs")?;
+    let right = runs::run_all(&rt, file.as_slice())?;
+    println!(rt, "runs: {right} right")?;
+    let file = cli::read(&rt, "orders")?;
+    let right = runs::run_all(&rt, file.as_slice())?;
+    println!(rt, "orders: {right} right")?;
     prints::print_all(&rt)
 }

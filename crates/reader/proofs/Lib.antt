@@ -5,6 +5,8 @@ pub mod Owns
 pub mod Counts
 pub mod Deeps
 pub mod Whole
+pub mod Wholelines
+pub mod Wholeheads
 pub mod Goesonsame
 pub mod Goesonwell
 pub mod Goesonclosed

@@ -32,6 +32,10 @@ pub record Read-as (text : List ℕ) (s : Shape) : Type 0 where
   pub body : Spells-body (Named names) (program .body) (drop (s .«body_at») text)
   pub first : lines-in text ≡ s .first + lines-in (drop (s .«body_at») text)
 
+-- If the text is a program within the limits, under any names, it is not refused.
+abbrev pub Every-read : List ℕ → Result Shape Refusal → Type 0
+Every-read text r = (ns : List (List ℕ)) (p : Program) → Taken ns p text → (s : Shape) × (r ≡ Ok s)
+
 -- Reading, step by step: what the code does, as functions.
 abbrev pub head-lines : ℕ → ℕ → ℕ
 head-lines c b = cond (ltb 0 c) 1 0 + cond (ltb c b) 1 0

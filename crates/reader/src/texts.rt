@@ -7,7 +7,7 @@ ghost use Rattle.std.specs.declared.result.Result.the-variants.{Err};
 ghost use Rattle.grammar.specs.Names.{Names-in};
 ghost use Rattle.grammar.specs.Walk.{place-in};
 ghost use Rattle.reader.specs.Goeson.{Goes-on};
-ghost use Rattle.reader.specs.Texts.{head-lines, whole, read-at, Read-as};
+ghost use Rattle.reader.specs.Texts.{head-lines, whole, read-at, Read-as, Every-read};
 use crate::blocks::Ending;
 use crate::blocks::Stop;
 use crate::blocks::block;
@@ -45,11 +45,12 @@ fn whole(stop: Stop) -> Result<Stop, Refusal>
     }
 }
 
-// Reads a text: what is in it, if it spells a program within the limits; or why it is refused. A refusal with number 1
-// stands at the first byte at which no text goes on so.
+// Reads a text: what is in it, if it spells a program within the limits; or why it is refused. No text that spells a program
+// within the limits is refused. A refusal with number 1 stands at the first byte at which no text goes on so.
 pub fn read(text: &[u8]) -> Result<Shape, Refusal>
     ensures walk { λ r. ⌜ r ≡ read-at (now (text .entry)) ⌝ }
     ensures taken { λ r. ⌜ made r (λ s. Read-as (now (text .entry)) s) ⌝ }
+    ensures every { λ r. ⌜ Every-read (now (text .entry)) r ⌝ }
     ensures shape { λ r. ⌜ ((p : ℕ) → r ≡ Err (Refusal.Shape p) → Goes-on (now (text .entry)) p) ⌝ }
 {
     let own = own_line(text)?;

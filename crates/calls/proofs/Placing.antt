@@ -73,6 +73,6 @@ shown-place most n d ts Field cs s = tt
 shown-place most n d ts (Raced r) cs (j, k, ne, hj, hk, ej, ek, ra, fi) =
     both-own (r .first .who .group) (r .second .who .group) (r .place)
     (all-at Own (marked n d ts) j (first-mark r) (marked-own n d ts) hj ej) (all-at Own (marked n d ts) k (second-mark r) (marked-own n d ts) hk ek)
-shown-place most n d ts (Wrong g l) cs s = tt
+shown-place most n d ts (Wrong g l i) cs s = tt
 shown-place most n d ts (Stuck g) cs s = tt
 shown-place most n d ts TooLong cs s = tt

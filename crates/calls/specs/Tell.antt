@@ -25,6 +25,6 @@ In-one-place r = (r .place ≡ 0) ⊎ ((r .place ≡ suc (r .first .who .group))
 abbrev pub One-place : Verdict → Type 0
 One-place Field = Unit {0}
 One-place (Raced r) = In-one-place r
-One-place (Wrong g l) = Unit {0}
+One-place (Wrong g l i) = Unit {0}
 One-place (Stuck g) = Unit {0}
 One-place TooLong = Unit {0}

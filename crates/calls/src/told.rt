@@ -49,7 +49,7 @@ pub fn told_by(verdict: Verdict) -> Told
     match verdict {
         Verdict::Field => Told::Field,
         Verdict::Raced(race) => race_told(race),
-        Verdict::Wrong { group, lane } => Told::Wrong { group, lane },
+        Verdict::Wrong { group, lane, line: _ } => Told::Wrong { group, lane },
         Verdict::Stuck { group } => Told::Stuck { group },
         Verdict::TooLong => Told::TooLong,
     }

@@ -128,7 +128,7 @@ module _ (z : Sizes) (at : ℕ → Body) (words : List ℕ) (lines : ℕ) (ls cs
 pub all-fine : (g start mask many : ℕ) (r : Outcome) → Ends g start mask many r → r ≡ Fine → many ≡ 32
 all-fine g start mask many Fine e f = e
 all-fine g start mask many (Raced x) e f = absurd (let q : _≡_ {A = ℕ} 0 1 = cc in omega arith)
-all-fine g start mask many (Wrong h l) e f = absurd (let q : _≡_ {A = ℕ} 0 1 = cc in omega arith)
+all-fine g start mask many (Wrong h l i) e f = absurd (let q : _≡_ {A = ℕ} 0 1 = cc in omega arith)
 
 pub line-done : (z : Sizes) (at : ℕ → Body) (lines : ℕ) (ls cs ks ls′ cs′ ks′ : List ℕ) (g start mask : ℕ) (r : Outcome) (d : Grid) (ts : List Turn) →
     Line-outcome z at lines ls cs ks ls′ cs′ ks′ g start mask r → Sofar z at d ts ls cs ks → Line-done z at d ts g start mask ls′ cs′ ks′ r

@@ -108,7 +108,7 @@ module _ (z : Sizes) (ls cs ks : List ℕ) (g start mask stop : ℕ) (todo : Tod
           by : (q : Outcome) → Names g (start + i) q → (q ≡ Fine → ⊥) → Ends g start mask (i + 1) q
           by Fine n f = absurd (f refl)
           by (Raced x) n f = (i, hi, add-one i, e)
-          by (Wrong h l) n f = (i, hi, add-one i, e, n .0, n .1)
+          by (Wrong h l k) n f = (i, hi, add-one i, e, n .0, n .1)
 
   pub row-all : (ls′ cs′ ks′ : List ℕ) → Row-sofar z ls cs ks ls′ cs′ ks′ g start mask stop todo xs ys 32 → Row-outcome z ls cs ks ls′ cs′ ks′ g start mask stop todo xs ys Fine
   row-all ls′ cs′ ks′ far = record { many = 32; ends = refl; did = far .did; after = far .sofar }

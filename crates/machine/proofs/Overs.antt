@@ -71,7 +71,7 @@ module _ (z : Sizes) (at : ℕ → Body) (lines : ℕ) (d : Grid) (ts : List Tur
         (l, hl, ap (λ (x : Grid). at-barrier (the-lane x g l .left)) (sym e) ∙ (ap (λ (x : Lane). at-barrier (x .left)) (the-lane-is z at ls cs g l hg hl) ∙ barred-lane z at ls g l waits)),
       )
   shows-over (Raced r) b = absurd b
-  shows-over (Wrong g l) b = absurd b
+  shows-over (Wrong g l i) b = absurd b
   shows-over TooLong b = absurd b
 
 -- what is left falls

@@ -67,7 +67,7 @@ module _ (z : Sizes) (at : ℕ → Body) (words text : List ℕ) (lines : ℕ) (
       few : (many : ℕ) (q : Outcome) → Ends g start mask many q → (j : ℕ) → j < many → j < 32
       few many Fine e j h = omega arith
       few many (Raced x) e j h = let a = e .1 in let b = e .2 in omega arith
-      few many (Wrong x y) e j h = let a = e .1 in let b = e .2 in omega arith
+      few many (Wrong x y i) e j h = let a = e .1 in let b = e .2 in omega arith
 
 pub ran-done : (z : Sizes) (at : ℕ → Body) (lines : ℕ) (ls cs ks ls′ cs′ ks′ : List ℕ) (g start mask : ℕ) (r : Outcome) (d : Grid) (ts : List Turn) →
     Row-ran z at lines ls cs ks ls′ cs′ ks′ g start mask r → Sofar z at d ts ls cs ks → Line-done z at d ts g start mask ls′ cs′ ks′ r

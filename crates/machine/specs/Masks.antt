@@ -48,7 +48,7 @@ pub record Row-did (z : Sizes) (ls cs ls′ cs′ : List ℕ) (g start mask stop
 abbrev pub Ends : ℕ → ℕ → ℕ → ℕ → Outcome → Type 0
 Ends g start mask i Fine = i ≡ 32
 Ends g start mask i (Raced r) = (j : ℕ) × (j < 32) × (i ≡ suc j) × (on mask j ≡ true)
-Ends g start mask i (Wrong h l) = (j : ℕ) × (j < 32) × (i ≡ suc j) × (on mask j ≡ true) × (h ≡ g) × (l ≡ start + j)
+Ends g start mask i (Wrong h l k) = (j : ℕ) × (j < 32) × (i ≡ suc j) × (on mask j ≡ true) × (h ≡ g) × (l ≡ start + j)
 
 -- The line was done for the mask: for as many of the row's lanes as `many` says.
 pub record Row-outcome (z : Sizes) (ls cs ks ls′ cs′ ks′ : List ℕ) (g start mask stop : ℕ) (todo : Todo) (xs ys : List ℕ) (r : Outcome) : Type 0 where

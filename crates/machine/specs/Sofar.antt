@@ -45,13 +45,13 @@ second-mark r = mark-of (r .place) (r .cell) (r .second .who) (r .second .wrote)
 abbrev pub After : Sizes → (ℕ → Body) → Grid → List Turn → List ℕ → List ℕ → List ℕ → Outcome → Type 0
 After z at d us ls cs ks Fine = Sofar z at d us ls cs ks
 After z at d us ls cs ks (Raced r) = (most : ℕ) → Shows most (z .lanes) d us (races (first-mark r) (second-mark r))
-After z at d us ls cs ks (Wrong g l) = (most : ℕ) → Shows most (z .lanes) d us (missing g l)
+After z at d us ls cs ks (Wrong g l i) = (most : ℕ) → Shows most (z .lanes) d us (missing g l)
 
 -- The lane that is named as wrong is lane l of group g.
 abbrev pub Names : ℕ → ℕ → Outcome → Type 0
 Names g l Fine = Unit {0}
 Names g l (Raced r) = Unit {0}
-Names g l (Wrong h k) = (h ≡ g) × (k ≡ l)
+Names g l (Wrong h k i) = (h ≡ g) × (k ≡ l)
 
 -- Lane l of group g did its turn, in phase p of the group, from where the machine was with ts; its touch has not been looked at yet.
 pub record Doing (z : Sizes) (at : ℕ → Body) (d : Grid) (ts : List Turn) (ls cs ks ls′ cs′ : List ℕ) (g l p : ℕ) (deed : Deed) : Type 0 where

@@ -24,7 +24,7 @@ use Rattle.machine.specs.Schedule.{turns-of}
 abbrev pub told-of : Verdict → List ℕ → meaning.Told
 told-of Field cs = meaning.cells cs
 told-of (Raced r) cs = meaning.races (first-mark r) (second-mark r)
-told-of (Wrong g l) cs = meaning.missing g l
+told-of (Wrong g l i) cs = meaning.missing g l
 told-of (Stuck g) cs = meaning.stuck g
 told-of TooLong cs = meaning.too-long
 
@@ -85,7 +85,7 @@ abbrev pub Over : Sizes → (ℕ → Body) → List ℕ → Verdict → Type 0
 Over z at ls Field = (g l : ℕ) → g < z .groups → l < z .lanes → ended (at (line-at z ls g l)) ≡ true
 Over z at ls (Stuck g) = (g < z .groups) × ((l : ℕ) × (l < z .lanes) × (at-barrier (at (line-at z ls g l)) ≡ true))
 Over z at ls (Raced r) = ⊥
-Over z at ls (Wrong g l) = ⊥
+Over z at ls (Wrong g l i) = ⊥
 Over z at ls TooLong = ⊥
 
 -- A lane of the group waits, or all of them have ended.

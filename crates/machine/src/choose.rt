@@ -62,7 +62,7 @@ pub fn do_choice(
             ) {
                 Outcome::Fine => Went::On(done + many),
                 Outcome::Raced(race) => Went::Told(Verdict::Raced(race)),
-                Outcome::Wrong { group, lane } => Went::Told(Verdict::Wrong { group, lane }),
+                Outcome::Wrong { group, lane, line } => Went::Told(Verdict::Wrong { group, lane, line }),
             }
         }
     }

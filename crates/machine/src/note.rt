@@ -62,7 +62,7 @@ pub fn note(
 {
     match deed {
         Deed::Quiet => Outcome::Fine,
-        Deed::Wrong => Outcome::Wrong { group, lane },
+        Deed::Wrong => Outcome::Wrong { group, lane, line },
         Deed::Touched(seen) => {
             let who = who_of(group, lane, phase, line);
             match touch(kept, seen.index, who, seen.wrote) {

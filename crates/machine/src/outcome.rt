@@ -16,5 +16,5 @@ pub struct Race {
 pub enum Outcome {
     Fine,
     Raced(Race),
-    Wrong { group: usize, lane: usize },
+    Wrong { group: usize, lane: usize, line: u32 },
 }

@@ -1,12 +1,12 @@
 // What the machine tells.
 use super::outcome::Race;
 
-// The cells of a told field lie in the lent slice.
+// The cells of a told field lie in the lent slice. The line of the text at which a lane went wrong explains it.
 #[derive(Clone, Copy)]
 pub enum Verdict {
     Field,
     Raced(Race),
-    Wrong { group: usize, lane: usize },
+    Wrong { group: usize, lane: usize, line: u32 },
     Stuck { group: usize },
     TooLong,
 }

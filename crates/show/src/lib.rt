@@ -110,11 +110,14 @@ fn show_refused(rt: &LibcRuntime, text: &[u8], refused: Refused) -> io::Result<(
 
 // The lines of the program at which what is told came about.
 fn show_lines(rt: &LibcRuntime, text: &[u8], verdict: Verdict) -> io::Result<()> {
-    if let Verdict::Raced(race) = verdict {
-        show_number(rt, text, race.first.who.line)?;
-        show_number(rt, text, race.second.who.line)?;
+    match verdict {
+        Verdict::Raced(race) => {
+            show_number(rt, text, race.first.who.line)?;
+            show_number(rt, text, race.second.who.line)
+        }
+        Verdict::Wrong { group: _, lane: _, line } => show_number(rt, text, line),
+        _ => Ok(()),
     }
-    Ok(())
 }
 
 // What is told stands on standard output, and where in the program on standard error. Only a field ends well.

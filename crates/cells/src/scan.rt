@@ -19,11 +19,11 @@ pub enum Next {
     Bad,
 }
 
-// Why no cells are read: the first byte that can't stand there, or a lent slice that is too short.
+// Why no cells are read: the first byte that can't stand there, or no memory for them.
 #[derive(Clone, Copy)]
 pub enum Unread {
     Bad(usize),
-    Short,
+    NoMemory,
 }
 
 fn white(byte: u8) -> bool

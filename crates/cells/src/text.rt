@@ -11,6 +11,7 @@ use crate::scan::Next;
 use crate::scan::Part;
 use crate::scan::Unread;
 use crate::scan::step;
+use std::alloc::Global;
 
 const BETWEEN: Part = Part {
     value: 0,
@@ -69,15 +70,18 @@ fn read_text(text: &[u8], cells: &mut [u32]) -> Result<usize, usize>
     }
 }
 
-// The cells in a text, into a lent slice of more than half as many words as the text has bytes: how many, or why not.
-pub fn read_cells(text: &[u8], cells: &mut [u32]) -> Result<usize, Unread>
-    ensures { λ r. ⌜ Reads-text (now (text .entry)) (cells-in (now (text .entry))) (now (cells .entry)) (now (cells .exit)) r ⌝ }
+// The cells in a text, or why not. Each has a byte at least, and a byte that is none stands between two.
+pub fn read_cells(heap: Global, text: &[u8]) -> Result<Vec<u32>, Unread>
+    ensures { λ r. ⌜ Reads-text (cells-in (now (text .entry))) r ⌝ }
 {
-    if cells.len() <= text.len() / 2 {
-        return Err(Unread::Short);
-    }
-    match read_text(text, cells) {
-        Ok(count) => Ok(count),
+    let Ok(mut cells) = vec![in heap; 0u32; text.len() / 2 + 1] else {
+        return Err(Unread::NoMemory);
+    };
+    match read_text(text, cells.as_mut_slice()) {
+        Ok(count) => {
+            cells.truncate(count);
+            Ok(cells)
+        }
         Err(at) => Err(Unread::Bad(at)),
     }
 }

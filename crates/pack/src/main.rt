@@ -62,11 +62,10 @@ fn pack(rt: &LibcRuntime, words: &[String]) -> io::Result<()> {
     let lanes = number(rt, lanes.as_str(), 1, 1024)?;
     let steps = number(rt, steps.as_str(), 0, 1 << 40)?;
     let text = input(rt, words.get(3))?;
-    let mut cells: Vec<u32> = vec![in rt.alloc(); 0; text.len() / 2 + 1]?;
-    match read_cells(text.as_slice(), cells.as_mut_slice()) {
-        Ok(count) => write(rt, groups, lanes, steps, &cells.as_slice()[0..count]),
+    match read_cells(rt.alloc(), text.as_slice()) {
+        Ok(cells) => write(rt, groups, lanes, steps, cells.as_slice()),
         Err(Unread::Bad(at)) => bad(rt, text.as_slice(), at),
-        Err(Unread::Short) => Err(io::Error::other("no room for the cells")),
+        Err(Unread::NoMemory) => Err(io::Error::other("no room for the cells")),
     }
 }
 

@@ -48,13 +48,18 @@ def is_made(path):
     return os.path.basename(path) in ("Answers.antt", "Invariants.antt", "Choices.antt", "Proof.antt")
 
 
+def answers(text):
+    """The names that the check asks for in a function's own proof files."""
+    return set(re.findall(r"^(?:abbrev |unfoldable )?(?:pub )?([\w'-]+) : goal\.", text, re.M))
+
+
 def declared(root):
     """The dashed names of definitions, and of lemmas."""
     words, lemmas = set(), set()
     for path in files(root, ".antt"):
         text = read(path)
         if is_made(path):
-            made = set(re.findall(r"^(?:pub )?([\w'-]+) : goal\.", text, re.M))
+            made = answers(text)
         else:
             made = set()
         block = None
@@ -67,7 +72,7 @@ def declared(root):
             m = re.match(r"(?:abbrev|unfoldable) (?:pub )?([\w'-]+(?: [\w'-]+)*) :", line)
             if m:
                 block = None
-                words.update(m[1].split())
+                words.update(set(m[1].split()) - made)
                 continue
             m = re.match(r"(?:pub )?([A-Za-z][\w'-]*(?: [A-Za-z][\w'-]*)*) :(?: |$)", line)
             if m:
@@ -134,7 +139,8 @@ def respell_antt(text, rows, known, made):
     """One file of definitions or proofs."""
     local = {}
     if made:
-        for name in set(re.findall(r"^(?:pub )?([\w'-]+) : goal\.", text, re.M)) | set(re.findall(r"goal\.([\w'-]+)", text)):
+        text = re.sub(r"(?<=\w)·(?=\d)", "-", text)
+        for name in answers(text) | set(re.findall(r"goal\.([\w'-]+)", text)):
             local[name] = joined(name.split("-"), known, "_".join)
     def token(m):
         name, at = m[0], m.start()

@@ -1,4 +1,4 @@
 use Rattle.formats.proofs.pen.+put_decimal.Given as goal
 
-abbrev pub decreases_put_decimal : goal.decreases-put_decimal
-decreases_put_decimal l = l.n
+abbrev pub decreases-put_decimal : goal.decreases-put_decimal
+decreases-put_decimal l = l.n

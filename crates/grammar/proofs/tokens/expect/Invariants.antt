@@ -2,5 +2,5 @@ use Rattle.std.proofs.Common.{◌≡◌, drop}
 use Rattle.grammar.specs.Walk.{bytes_at}
 use Rattle.grammar.proofs.tokens.expect.Given as goal
 
-abbrev pub invariant_loop_b : goal.invariant-loop-b
-invariant_loop_b l = bytes_at l.text (drop l.b-index l.wanted) l.at ≡ bytes_at l.text l.wanted l.i
+abbrev pub invariant-loop-b : goal.invariant-loop-b
+invariant-loop-b l = bytes_at l.text (drop l.b-index l.wanted) l.at ≡ bytes_at l.text l.wanted l.i

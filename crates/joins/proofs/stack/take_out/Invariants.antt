@@ -1,5 +1,5 @@
 use Rattle.joins.proofs.Stackmoves.{MovedDown}
 use Rattle.joins.proofs.stack.take_out.Given as goal
 
-abbrev pub invariant_loop_i : goal.invariant-loop-i
-invariant_loop_i l = MovedDown l.z l.g l.start l.k l.i l.initial.lanes l.lanes
+abbrev pub invariant-loop-i : goal.invariant-loop-i
+invariant-loop-i l = MovedDown l.z l.g l.start l.k l.i l.initial.lanes l.lanes

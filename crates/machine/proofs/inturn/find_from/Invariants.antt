@@ -5,9 +5,9 @@ use Rattle.machine.specs.Line.{Runs}
 use Rattle.machine.specs.Schedule.{Passed}
 use Rattle.machine.proofs.inturn.find_from.Given as goal
 
-abbrev pub invariant_loop_g : goal.invariant-loop-g
-invariant_loop_g v = (at : ℕ → Body) (cs : List ℕ) → Runs v.z at v.steps v.lines v.lanes → Passed v.z.lanes (grid_of v.z at v.lanes cs) v.group v.lane →
+abbrev pub invariant-loop-g : goal.invariant-loop-g
+invariant-loop-g v = (at : ℕ → Body) (cs : List ℕ) → Runs v.z at v.steps v.lines v.lanes → Passed v.z.lanes (grid_of v.z at v.lanes cs) v.group v.lane →
     Passed v.z.lanes (grid_of v.z at v.lanes cs) v.g v.from
 
-abbrev pub decreases_loop_g : goal.decreases-loop-g
-decreases_loop_g v = v.z.groups - v.g
+abbrev pub decreases-loop-g : goal.decreases-loop-g
+decreases-loop-g v = v.z.groups - v.g

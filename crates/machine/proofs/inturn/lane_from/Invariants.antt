@@ -5,8 +5,8 @@ use Rattle.store.specs.Lent.{grid_of}
 use Rattle.machine.specs.Line.{Runs}
 use Rattle.machine.proofs.inturn.lane_from.Given as goal
 
-abbrev pub invariant_loop_l : goal.invariant-loop-l
-invariant_loop_l v = (at : ℕ → Body) (cs : List ℕ) → Runs v.z at v.steps v.lines v.lanes → (k : ℕ) → v.from ≤ k → k < v.l → can v.z.lanes (grid_of v.z at v.lanes cs) (of v.g k) ≡ false
+abbrev pub invariant-loop-l : goal.invariant-loop-l
+invariant-loop-l v = (at : ℕ → Body) (cs : List ℕ) → Runs v.z at v.steps v.lines v.lanes → (k : ℕ) → v.from ≤ k → k < v.l → can v.z.lanes (grid_of v.z at v.lanes cs) (of v.g k) ≡ false
 
-abbrev pub decreases_loop_l : goal.decreases-loop-l
-decreases_loop_l v = v.z.lanes - v.l
+abbrev pub decreases-loop-l : goal.decreases-loop-l
+decreases-loop-l v = v.z.lanes - v.l

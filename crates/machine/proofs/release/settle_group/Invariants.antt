@@ -1,5 +1,5 @@
 use Rattle.machine.specs.Moves.{GroupSettled}
 use Rattle.machine.proofs.release.settle_group.Given as goal
 
-abbrev pub invariant_loop_l : goal.invariant-loop-l
-invariant_loop_l v = GroupSettled v.z v.steps v.lines v.g v.l v.initial.lanes v.lanes
+abbrev pub invariant-loop-l : goal.invariant-loop-l
+invariant-loop-l v = GroupSettled v.z v.steps v.lines v.g v.l v.initial.lanes v.lanes

@@ -2,8 +2,8 @@ use Rattle.std.proofs.Common.{◌≡◌, ◌+◌, ◌-◌, ◌≤◌, length, ve
 use Rattle.machine.specs.Script.{TurnsHere}
 use Rattle.machine.proofs.script.read_turns.Given as goal
 
-abbrev pub invariant_loop_at : goal.invariant-loop-at
-invariant_loop_at l = (l.at ≤ length l.bytes) × (l.line ≡ vec_len l.turns + 1) × (l.line ≤ l.at + 1) × TurnsHere l.bytes 0 (vec_items l.turns) l.at
+abbrev pub invariant-loop-at : goal.invariant-loop-at
+invariant-loop-at l = (l.at ≤ length l.bytes) × (l.line ≡ vec_len l.turns + 1) × (l.line ≤ l.at + 1) × TurnsHere l.bytes 0 (vec_items l.turns) l.at
 
-abbrev pub decreases_loop_at : goal.decreases-loop-at
-decreases_loop_at l = length l.bytes - l.at
+abbrev pub decreases-loop-at : goal.decreases-loop-at
+decreases-loop-at l = length l.bytes - l.at

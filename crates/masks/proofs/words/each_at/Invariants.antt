@@ -1,5 +1,5 @@
 use Rattle.masks.proofs.Equal.{WordsFrom}
 use Rattle.masks.proofs.words.each_at.Given as goal
 
-abbrev pub invariant_loop_i : goal.invariant-loop-i
-invariant_loop_i l = WordsFrom l.xs l.v l.i l.mask
+abbrev pub invariant-loop-i : goal.invariant-loop-i
+invariant-loop-i l = WordsFrom l.xs l.v l.i l.mask

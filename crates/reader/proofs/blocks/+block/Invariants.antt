@@ -1,4 +1,4 @@
 use Rattle.reader.proofs.blocks.+block.Given as goal
 
-abbrev pub decreases_block : goal.decreases-block
-decreases_block l = l.left
+abbrev pub decreases-block : goal.decreases-block
+decreases-block l = l.left

@@ -6,13 +6,13 @@ use Rattle.rows.specs.Pick.{stands_at}
 use Rattle.rows.specs.Looks.{Seen, Holds, GetsSmaller}
 use Rattle.rows.proofs.look.look_row.Given as goal
 
-abbrev pub invariant_loop_k : goal.invariant-loop-k
-invariant_loop_k l =
+abbrev pub invariant-loop-k : goal.invariant-loop-k
+invariant-loop-k l =
     (l.k ≤ depth_of l.z l.lanes l.g l.start) × (l.seen < 2 ^ 32)
     × GetsSmaller (join_at l.z l.lanes l.g l.start) (depth_of l.z l.lanes l.g l.start) l.held
     × (((k i : ℕ) → k < depth_of l.z l.lanes l.g l.start → on (join_at l.z l.lanes l.g l.start k).lanes i ≡ true → i < width_of l.z l.start) →
     Seen (step_at l.steps l.lines) (stands_at l.z l.lanes l.g l.start) (join_at l.z l.lanes l.g l.start) (depth_of l.z l.lanes l.g l.start) l.k l.seen
     × Holds (stands_at l.z l.lanes l.g l.start) (join_at l.z l.lanes l.g l.start) (depth_of l.z l.lanes l.g l.start) l.seen l.held)
 
-abbrev pub decreases_loop_k : goal.decreases-loop-k
-decreases_loop_k l = l.k
+abbrev pub decreases-loop-k : goal.decreases-loop-k
+decreases-loop-k l = l.k

@@ -1,5 +1,5 @@
 use Rattle.std.proofs.Common.{◌-◌, length}
 use Rattle.values.proofs.eval.+eval_row.Given as goal
 
-abbrev pub decreases_eval_row : goal.decreases-eval_row
-decreases_eval_row l = length l.text.now - l.at
+abbrev pub decreases-eval_row : goal.decreases-eval_row
+decreases-eval_row l = length l.text.now - l.at

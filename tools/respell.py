@@ -21,9 +21,9 @@ OTHERWISE = {
     word: word.replace("-", "_") + "_spec"
     for word in (
         "begins-field can-step cell-kind cells-line else-lines head-lines is-act is-atom is-cells is-else is-operator is-own join-for kind-of lane-on "
-        "line-end must-end must-loop phase-of plan-of put-row stance-of text-line touch-of waiting-of with-lanes within-line"
+        "leaf-of line-end must-end must-loop phase-of plan-of put-row stance-of text-line touch-of waiting-of with-expr with-lanes within-line"
     ).split()
-}
+} | {"read-field": "read-field", "count-end": "count-end", "named-line": "named-line"}
 # Words that the check puts into the names of goals and places.
 MADE = set(
     "in_err in_ok in_default overflow_add overflow_sub overflow_mul overflow_cast overflow_shl overflow_shr overflow_neg overflow_div overflow_rem invariant_of "
@@ -64,12 +64,12 @@ def declared(root):
             made = set()
         block = None
         for line in text.split("\n"):
-            m = re.match(r"(?:abbrev |unfoldable )?(?:pub )?(record|data) ([\w'-]+)", line)
+            m = re.match(r" *(?:abbrev |unfoldable )?(?:pub )?(record|data) ([\w'-]+)", line)
             if m:
                 block = m[1]
                 words.add(m[2])
                 continue
-            m = re.match(r"(?:abbrev|unfoldable) (?:pub )?([\w'-]+(?: [\w'-]+)*) :", line)
+            m = re.match(r" *(?:abbrev|unfoldable) (?:pub )?([\w'-]+(?: [\w'-]+)*) :", line)
             if m:
                 block = None
                 words.update(set(m[1].split()) - made)
@@ -80,8 +80,8 @@ def declared(root):
                 names = set(m[1].split()) - made
                 (words if "/specs/" in path else lemmas).update(names)
                 continue
-            m = re.match(r"  (?:pub )?([A-Za-z][\w'-]*(?: [A-Za-z][\w'-]*)*) :(?: |$)", line)
-            if m and block:
+            m = re.match(r" +(?:pub )?([A-Za-z][\w'-]*(?: [A-Za-z][\w'-]*)*) :(?: |$)", line)
+            if m and (block or "/specs/" in path):
                 words.update(m[1].split())
     for path in files(root, ".rt"):
         words.update(re.findall(r"\bghost ([\w'-]+)\s*:", read(path)))

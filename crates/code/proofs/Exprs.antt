@@ -1,10 +1,10 @@
 -- How far an expression goes in a text, and what it is made of.
 use Rattle.std.proofs.Common.{◌≡◌, ℕ, zero, suc, ◌+◌, ◌-◌, ◌<◌, ◌≤◌, Bool, true, false, cond, not, ◌&&◌, eqb, leb, ◌≢◌, ◌⊎◌, List, [], ◌∷◌, ◌++◌, length, get_or, drop, codes, sym, refl, ap, ◌∙◌, inl, inr, append_assoc, arith}
-use Rattle.std.proofs.lemmas.List.{length-append, get_or_append_left}
+use Rattle.std.proofs.lemmas.List.{length_append, get_or_append_left}
 use Rattle.std.proofs.lemmas.Bool.{and_parts, and_from, or_left, or_right, true≢false, cases_lt, cases_eq, both_ways}
 use Rattle.std.proofs.lemmas.Bool.Decides.{nat_tests}
 use Rattle.lanes.specs.Syntax.{Expr, fixed, var, lane, group, lanes, plus, minus, times, over, rest_of, less, same}
-use Rattle.grammar.specs.Spelling.{word_byte, digit, letter, each_byte, IsName, IsNumber, infix_of, Spells-expr, Named}
+use Rattle.grammar.specs.Spelling.{word_byte, digit, letter, each_byte, IsName, IsNumber, infix_of, SpellsExpr, Named}
 use Rattle.grammar.specs.Stands.{Stands, Apart}
 use Rattle.grammar.specs.Words.{WordEnd}
 use Rattle.grammar.proofs.Scanned.{byte_at, word-ends}
@@ -36,7 +36,7 @@ infix-append u v w op =
     ap (λ t. 40 ∷ t) (append_assoc u (32 ∷ op ∷ 32 ∷ (v ++ (41 ∷ []))) w ∙ ap (λ t. u ++ (32 ∷ op ∷ 32 ∷ t)) (append_assoc v (41 ∷ []) w))
 
 infix-length : (u v : List ℕ) (op : ℕ) → length (infix_of u op v) ≡ 5 + (length u + length v)
-infix-length u v op = simp length-append (omega arith)
+infix-length u v op = simp length_append (omega arith)
 
 -- The brackets of (u op v), whose parts go by.
 infix-passes : (u v : List ℕ) (op d : ℕ) (w : List ℕ) → op ≢ 40 → op ≢ 41 → ((t : List ℕ) → closing (suc d) (u ++ t) ≡ length u + closing (suc d) t)
@@ -58,8 +58,8 @@ module _ (N : ℕ → List ℕ → Type 0) (names : (k : ℕ) (u : List ℕ) →
       let q : closing (suc (suc d)) (41 ∷ w) ≡ suc (closing (suc d) w) = closing-shut (suc (suc d)) 41 w refl (omega arith) ∙ ap (λ n. suc (closing n w)) (omega arith) in
       rw (e, infix-length u v op, infix-passes u v op (suc d) w h k pu pv, q) (omega arith)
 
-  passes : (e : Expr) (t : List ℕ) → Spells-expr N e t → (d : ℕ) (w : List ℕ) → closing (suc d) (t ++ w) ≡ length t + closing (suc d) w
-  unfolding Spells-expr each_byte
+  passes : (e : Expr) (t : List ℕ) → SpellsExpr N e t → (d : ℕ) (w : List ℕ) → closing (suc d) (t ++ w) ≡ length t + closing (suc d) w
+  unfolding SpellsExpr each_byte
   passes (fixed a) t s d w = word-passes t (each_weaken digit word_byte digit-word t s.bytes) (suc d) w
   passes (var k) t s d w = word-passes t (names k t s).bytes (suc d) w
   passes lane t s d w = rw s (word-passes (codes "lane") refl (suc d) w)
@@ -78,14 +78,14 @@ module _ (N : ℕ → List ℕ → Type 0) (names : (k : ℕ) (u : List ℕ) →
     word : each_byte word_byte t ≡ true → 1 ≤ length t → Form t
     bracket : get_or t 0 0 ≡ 40 → 1 ≤ length t → ((w : List ℕ) → closing 0 (t ++ w) ≡ length t) → Form t
 
-  whole : (e f : Expr) (op : ℕ) (t u v : List ℕ) → t ≡ infix_of u op v → op ≢ 40 → op ≢ 41 → Spells-expr N e u → Spells-expr N f v → Form t
+  whole : (e f : Expr) (op : ℕ) (t u v : List ℕ) → t ≡ infix_of u op v → op ≢ 40 → op ≢ 41 → SpellsExpr N e u → SpellsExpr N f v → Form t
   whole e f op t u v q h k su sv =
       let n = infix-length u v op in
       bracket (ap (λ x. get_or x 0 0) q) (rw q (omega arith))
       (λ w. rw (q, n, infix-passes u v op 0 w h k (passes e u su 0) (passes f v sv 0), closing-last 1 41 w refl (omega arith)) (omega arith))
 
-  pub form : (e : Expr) (t : List ℕ) → Spells-expr N e t → Form t
-  unfolding Spells-expr each_byte
+  pub form : (e : Expr) (t : List ℕ) → SpellsExpr N e t → Form t
+  unfolding SpellsExpr each_byte
   form (fixed a) t s = word (each_weaken digit word_byte digit-word t s.bytes) s.some
   form (var k) t s = word (names k t s).bytes (names k t s).some
   form lane t s = word (ap (each_byte word_byte) s) (rw s (omega arith))
@@ -103,16 +103,16 @@ module _ (N : ℕ → List ℕ → Type 0) (names : (k : ℕ) (u : List ℕ) →
   first_of u z h = get_or_append_left u z 0 0 (omega arith)
 
   -- Where a bracket stands the expression ends where it closes; elsewhere it is a word.
-  pub ends-bracket : (text : List ℕ) (x y : ℕ) (e : Expr) (s : Stands N text x e) → get_or text x 0 ≡ 40 → y ≡ x + closing 0 (drop x text) → drop y text ≡ s.behind
-  ends-bracket text x y e s h q =
+  pub ends_bracket : (text : List ℕ) (x y : ℕ) (e : Expr) (s : Stands N text x e) → get_or text x 0 ≡ 40 → y ≡ x + closing 0 (drop x text) → drop y text ≡ s.behind
+  ends_bracket text x y e s h q =
       let b : get_or (s.spelling ++ s.behind) 0 0 ≡ 40 = sym (first_byte text _ x s.here) ∙ h in
       elim (form e s.spelling s.spells) [
         | word p n ↦ absurd (word-open _ (byte_at word_byte s.spelling 0 p (omega arith)) (sym (first_of s.spelling s.behind n) ∙ b))
         | bracket p n c ↦ drop-on text s.spelling s.behind x y s.here (q ∙ ap (λ t. x + closing 0 t) s.here ∙ ap (λ m. x + m) (c s.behind))
       ]
 
-  pub ends-word : (text : List ℕ) (x y : ℕ) (e : Expr) (s : Stands N text x e) → get_or text x 0 ≢ 40 → WordEnd text x y → drop y text ≡ s.behind
-  ends-word text x y e s h w =
+  pub ends_word : (text : List ℕ) (x y : ℕ) (e : Expr) (s : Stands N text x e) → get_or text x 0 ≢ 40 → WordEnd text x y → drop y text ≡ s.behind
+  ends_word text x y e s h w =
       elim (form e s.spelling s.spells) [
         | word p n ↦ drop-on text s.spelling s.behind x y s.here (word-ends text x y s.spelling s.behind w s.here p s.apart)
         | bracket p n c ↦ absurd (h (first_byte text _ x s.here ∙ first_of s.spelling s.behind n ∙ p))
@@ -123,8 +123,8 @@ named-names ns h k u n = rw n.1 (h k n.0)
 
 pub bracket-ends : (text : List ℕ) (x y : ℕ) → get_or text x 0 ≡ 40 → y ≡ x + closing 0 (drop x text) → EndsAt text x y
 unfolding EndsAt
-bracket-ends text x y h q ns e names s = ends-bracket (Named ns) (named-names ns names) text x y e s h q
+bracket-ends text x y h q ns e names s = ends_bracket (Named ns) (named-names ns names) text x y e s h q
 
 pub word-ends-at : (text : List ℕ) (x y : ℕ) → get_or text x 0 ≢ 40 → WordEnd text x y → EndsAt text x y
 unfolding EndsAt
-word-ends-at text x y h w ns e names s = ends-word (Named ns) (named-names ns names) text x y e s h w
+word-ends-at text x y h w ns e names s = ends_word (Named ns) (named-names ns names) text x y e s h w

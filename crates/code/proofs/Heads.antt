@@ -1,12 +1,12 @@
 -- The first word of a line.
 use Rattle.std.proofs.Common.{◌≡◌, ℕ, zero, suc, ◌+◌, ◌-◌, ◌<◌, ◌≤◌, Bool, true, false, cond, not, ◌&&◌, eqb, leb, ◌≢◌, ◌⊎◌, List, [], ◌∷◌, ◌++◌, length, get_or, drop, Some, None, codes, Option, sym, refl, ap, ◌∙◌, subst, inl, inr, append_assoc, arith}
 use Rattle.std.specs.List.{between}
-use Rattle.std.proofs.lemmas.List.{length-append, length-drop, take_at}
+use Rattle.std.proofs.lemmas.List.{length_append, length-drop, take_at}
 use Rattle.std.proofs.lemmas.Bool.{true≢false, false≢true}
 use Rattle.lanes.specs.Syntax.{Expr, fixed, var, lane, group, lanes, plus, minus, times, over, rest_of, less, same}
 use Rattle.grammar.specs.declared.keywords.Keyword.{Keyword}
 use Rattle.grammar.specs.declared.keywords.Keyword.TheVariants.{Own, Cells, Cell, Field, Barrier, If, Else, End, While, Lane, Group, Lanes}
-use Rattle.grammar.specs.Spelling.{word_byte, digit, each_byte, same_bytes, one_of, keywords, IsName, infix_of, Spells-expr, Named}
+use Rattle.grammar.specs.Spelling.{word_byte, digit, each_byte, same_bytes, one_of, keywords, IsName, infix_of, SpellsExpr, Named}
 use Rattle.grammar.specs.Stands.{Stands, Apart}
 use Rattle.grammar.specs.Words.{WordEnd}
 use Rattle.grammar.specs.Names.{NamesIn, Distinct, FirstAt, PlaceOf}
@@ -155,8 +155,8 @@ module _ (N : ℕ → List ℕ → Type 0) (names : (k : ℕ) (u : List ℕ) →
   first-other : (u : List ℕ) (j : Keyword) (b : ℕ) → CellsWord j → get_or u 0 0 ≡ b → b ≢ 99 → b ≢ 102 → u ≢ written j
   first-other u j b c h p q e = elim (cells-first j c) [ inl f ↦ p (sym h ∙ ap (λ v. get_or v 0 0) e ∙ f) | inr f ↦ q (sym h ∙ ap (λ v. get_or v 0 0) e ∙ f) ]
 
-  not-cells : (e : Expr) (u : List ℕ) (j : Keyword) → CellsWord j → Spells-expr N e u → u ≢ written j
-  unfolding Spells-expr
+  not-cells : (e : Expr) (u : List ℕ) (j : Keyword) → CellsWord j → SpellsExpr N e u → u ≢ written j
+  unfolding SpellsExpr
   not-cells (fixed a) u j c s q = true≢false (sym s.bytes ∙ ap (each_byte digit) q ∙ no-digits j c)
   not-cells (var k) u j c s q = name_free u j (names k u s) q
   not-cells lane u j c s q = first-other u j 108 c (ap (λ v. get_or v 0 0) s) (omega arith) (omega arith) q

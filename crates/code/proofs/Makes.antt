@@ -2,7 +2,7 @@
 use Rattle.std.proofs.Common.{◌≡◌, ℕ, zero, suc, ◌+◌, ◌-◌, ◌*◌, ◌/◌, ◌<◌, ◌≤◌, max, Bool, true, false, cond, ◌≢◌, ◌⊎◌, List, [], ◌∷◌, ◌++◌, length, get_or, drop, codes, sym, refl, ap, ◌∙◌, subst, inl, inr, append_assoc, arith}
 use Rattle.std.proofs.lemmas.Bool.{cases_Bool}
 use Rattle.lanes.specs.Syntax.{Body, Expr, ended, end, when, while}
-use Rattle.grammar.specs.Spelling.{each_byte, Spells-expr, Spells-body, Named}
+use Rattle.grammar.specs.Spelling.{each_byte, SpellsExpr, SpellsBody, Named}
 use Rattle.grammar.specs.Stands.{Stands}
 use Rattle.grammar.specs.Taken.{depth}
 use Rattle.code.specs.declared.step.Step.{Step}
@@ -14,7 +14,7 @@ use Rattle.code.specs.Scan.{in_line}
 use Rattle.code.specs.Make.{entry_at, Kept, SameEntries, Lies, Halts, no_more, at_else, at_end, Names, NextLine, After, Given, Done, Part, Moved, LinesMade, Branches, BranchMade, ElseLies, none, some, ElseGiven, ElseMade, Closed}
 use Rattle.code.proofs.Left.{else-none, else-some, else-room, ended_is, lines_none, no_lines, when-lines}
 use Rattle.code.proofs.Texts.{each_append}
-use Rattle.code.proofs.Tells.{next-is, in-one-line}
+use Rattle.code.proofs.Tells.{next_is, in-one-line}
 use Rattle.code.proofs.Inside.{kept_entry, kept-wider, kept-both, codes_same}
 
 module _ (ns : List (List ℕ)) (text : List ℕ) where
@@ -27,20 +27,20 @@ module _ (ns : List (List ℕ)) (text : List ℕ) where
     pub behind : List ℕ
     pub lies : Lies ns text n first (lines ++ (codes "end" ++ (10 ∷ (behind ++ z))))
     pub is : ElseLies ns lines second
-    pub spells : Spells-body (Named ns) rest behind
-    pub deep-first : suc (depth first) ≤ fuel
-    pub deep-second : suc (depth second) ≤ fuel
-    pub deep-rest : depth rest ≤ fuel
+    pub spells : SpellsBody (Named ns) rest behind
+    pub deep_first : suc (depth first) ≤ fuel
+    pub deep_second : suc (depth second) ≤ fuel
+    pub deep_rest : depth rest ≤ fuel
     pub count : suc (suc o + lines_of first + else_lines_spec second) + lines_of rest ≡ o + lines_of b
-    pub codes-on : (after : List ℕ) (m l : ℕ) → m ≡ suc o + lines_of first → l ≡ m + else_lines_spec second → entry_at after o ≡ SBranch x (suc o) (suc m) (suc l) looped →
+    pub codes_on : (after : List ℕ) (m l : ℕ) → m ≡ suc o + lines_of first → l ≡ m + else_lines_spec second → entry_at after o ≡ SBranch x (suc o) (suc m) (suc l) looped →
         entry_at after m ≡ SJump (cond looped o (suc l)) → entry_at after l ≡ SJump (cond looped o (suc l)) → Codes (Named ns) text (length ns) (entry_at after) (suc o) first →
         Codes (Named ns) text (length ns) (entry_at after) (suc m) second → Codes (Named ns) text (length ns) (entry_at after) (suc l) rest → Codes (Named ns) text (length ns) (entry_at after) o b
 
-  if-codes : (x o : ℕ) (e : Expr) (c d b : Body) → Stands (Named ns) text x e → (after : List ℕ) (m l : ℕ) → m ≡ suc o + lines_of c → l ≡ m + else_lines_spec d →
+  if_codes : (x o : ℕ) (e : Expr) (c d b : Body) → Stands (Named ns) text x e → (after : List ℕ) (m l : ℕ) → m ≡ suc o + lines_of c → l ≡ m + else_lines_spec d →
       entry_at after o ≡ SBranch x (suc o) (suc m) (suc l) false → entry_at after m ≡ SJump (suc l) → entry_at after l ≡ SJump (suc l) → Codes (Named ns) text (length ns) (entry_at after) (suc o) c →
       Codes (Named ns) text (length ns) (entry_at after) (suc m) d → Codes (Named ns) text (length ns) (entry_at after) (suc l) b → Codes (Named ns) text (length ns) (entry_at after) o (when e c d b)
   unfolding Codes
-  if-codes x o e c d b st after m l hm hl q1 q2 q3 cc cd cb =
+  if_codes x o e c d b st after m l hm hl q1 q2 q3 cc cd cb =
       let a : suc m ≡ suc o + suc (lines_of c) = omega arith in
       let j : suc l ≡ suc o + suc (lines_of c) + else_lines_spec d = omega arith in (
         (x, st, q1 ∙ ap (λ n. SBranch x (suc o) n (suc l) false) a ∙ ap (λ n. SBranch x (suc o) (suc o + suc (lines_of c)) n false) j),
@@ -55,11 +55,11 @@ module _ (ns : List (List ℕ)) (text : List ℕ) where
   unfolding ended
   end_none = else-none end refl
 
-  while-codes : (x o : ℕ) (e : Expr) (c b : Body) → Stands (Named ns) text x e → (after : List ℕ) (m l : ℕ) → m ≡ suc o + lines_of c → l ≡ m + else_lines_spec end →
+  while_codes : (x o : ℕ) (e : Expr) (c b : Body) → Stands (Named ns) text x e → (after : List ℕ) (m l : ℕ) → m ≡ suc o + lines_of c → l ≡ m + else_lines_spec end →
       entry_at after o ≡ SBranch x (suc o) (suc m) (suc l) true → entry_at after m ≡ SJump o → Codes (Named ns) text (length ns) (entry_at after) (suc o) c →
       Codes (Named ns) text (length ns) (entry_at after) (suc l) b → Codes (Named ns) text (length ns) (entry_at after) o (while e c b)
   unfolding Codes
-  while-codes x o e c b st after m l hm hl q1 q2 cc cb =
+  while_codes x o e c b st after m l hm hl q1 q2 cc cb =
       let z = end_none in
       let a : suc m ≡ suc o + suc (lines_of c) = omega arith in
       let j : suc l ≡ suc o + suc (lines_of c) = omega arith in (
@@ -70,13 +70,13 @@ module _ (ns : List (List ℕ)) (text : List ℕ) where
       )
 
   module _ (names : Names ns text) where
-    word-in-one-line : (e : Expr) (m u : List ℕ) → each_byte in_line m ≡ true → Spells-expr (Named ns) e u → each_byte in_line (m ++ u) ≡ true
-    word-in-one-line e m u h s = each_append in_line m u h (in-one-line ns text names e u s)
+    word_in_one_line : (e : Expr) (m u : List ℕ) → each_byte in_line m ≡ true → SpellsExpr (Named ns) e u → each_byte in_line (m ++ u) ≡ true
+    word_in_one_line e m u h s = each_append in_line m u h (in-one-line ns text names e u s)
 
-    inside-if : (x : ℕ) (e : Expr) (c d b : Body) (z : List ℕ) (at n o fuel : ℕ) → Stands (Named ns) text x e → Lies ns text at (when e c d b) z → depth (when e c d b) ≤ fuel → NextLine text at n
+    inside_if : (x : ℕ) (e : Expr) (c d b : Body) (z : List ℕ) (at n o fuel : ℕ) → Stands (Named ns) text x e → Lies ns text at (when e c d b) z → depth (when e c d b) ≤ fuel → NextLine text at n
         → Inside x false (when e c d b) z n o fuel
-    unfolding Spells-body depth each_byte
-    inside-if x e c d b z at n o fuel st l deep next =
+    unfolding SpellsBody depth each_byte
+    inside_if x e c d b z at n o fuel st l deep next =
         let s = l.spells in
         let t : drop at text ≡ (codes "if " ++ s.0) ++ (10 ∷ (s.1 ++ (s.2 ++ (codes "end" ++ (10 ∷ (s.3 ++ z)))))) =
         l.here ∙ ap (λ v. v ++ z) s.8
@@ -88,28 +88,28 @@ module _ (ns : List (List ℕ)) (text : List ℕ) where
           rest = b;
           lines = s.2;
           behind = s.3;
-          lies = record { spelt = s.1; spells = s.5; here = next-is text (codes "if " ++ s.0) _ at n next t (word-in-one-line e (codes "if ") s.0 refl s.4) };
+          lies = record { spelt = s.1; spells = s.5; here = next_is text (codes "if " ++ s.0) _ at n next t (word_in_one_line e (codes "if ") s.0 refl s.4) };
           is = elim s.6 [ inl p ↦ none p.0 p.1 | inr p ↦ some p.0 p.1 p.2 ];
           spells = s.7;
-          deep-first = omega arith;
-          deep-second = omega arith;
-          deep-rest = omega arith;
+          deep_first = omega arith;
+          deep_second = omega arith;
+          deep_rest = omega arith;
           count = omega (arith, when-lines e c d b);
-          codes-on = if-codes x o e c d b st;
+          codes_on = if_codes x o e c d b st;
         }
 
-    while-lines : (e : Expr) (c b : Body) → lines_of (while e c b) ≡ suc (suc (lines_of c) + lines_of b)
+    while_lines : (e : Expr) (c b : Body) → lines_of (while e c b) ≡ suc (suc (lines_of c) + lines_of b)
     unfolding lines_of
-    while-lines e c b = refl
+    while_lines e c b = refl
 
-    end-deep : depth end ≡ 0
+    end_deep : depth end ≡ 0
     unfolding depth
-    end-deep = refl
+    end_deep = refl
 
-    inside-while : (x : ℕ) (e : Expr) (c b : Body) (z : List ℕ) (at n o fuel : ℕ) → Stands (Named ns) text x e → Lies ns text at (while e c b) z → depth (while e c b) ≤ fuel → NextLine text at n
+    inside_while : (x : ℕ) (e : Expr) (c b : Body) (z : List ℕ) (at n o fuel : ℕ) → Stands (Named ns) text x e → Lies ns text at (while e c b) z → depth (while e c b) ≤ fuel → NextLine text at n
         → Inside x true (while e c b) z n o fuel
-    unfolding Spells-body depth each_byte
-    inside-while x e c b z at n o fuel st l deep next =
+    unfolding SpellsBody depth each_byte
+    inside_while x e c b z at n o fuel st l deep next =
         let s = l.spells in
         let t : drop at text ≡ (codes "while " ++ s.0) ++ (10 ∷ (s.1 ++ (codes "end" ++ (10 ∷ (s.2 ++ z))))) =
         l.here ∙ ap (λ v. v ++ z) s.7
@@ -122,83 +122,83 @@ module _ (ns : List (List ℕ)) (text : List ℕ) where
           rest = b;
           lines = [];
           behind = s.2;
-          lies = record { spelt = s.1; spells = s.4; here = next-is text (codes "while " ++ s.0) _ at n next t (word-in-one-line e (codes "while ") s.0 refl s.3) };
+          lies = record { spelt = s.1; spells = s.4; here = next_is text (codes "while " ++ s.0) _ at n next t (word_in_one_line e (codes "while ") s.0 refl s.3) };
           is = none refl refl;
           spells = s.6;
-          deep-first = omega arith;
-          deep-second = omega (arith, end-deep);
-          deep-rest = omega arith;
-          count = omega (arith, while-lines e c b);
-          codes-on = λ after m l hm hl q1 q2 q3 cc cd cb. while-codes x o e c b st after m l hm hl q1 q2 cc cb;
+          deep_first = omega arith;
+          deep_second = omega (arith, end_deep);
+          deep_rest = omega arith;
+          count = omega (arith, while_lines e c b);
+          codes_on = λ after m l hm hl q1 q2 q3 cc cd cb. while_codes x o e c b st after m l hm hl q1 q2 cc cb;
         }
 
     inside : (x : ℕ) (looped : Bool) (b : Body) (z : List ℕ) (at n o fuel : ℕ) → Branches ns text x looped b → Lies ns text at b z → depth b ≤ fuel → NextLine text at n → Inside x looped b z n o fuel
     inside x false b z at n o fuel br l deep next =
         subst (λ (v : Body). Inside x false v z n o fuel) (sym br.4)
-        (inside-if x br.0 br.1 br.2 br.3 z at n o fuel br.5 (subst (λ (v : Body). Lies ns text at v z) br.4 l) (subst (λ (v : Body). depth v ≤ fuel) br.4 deep) next)
+        (inside_if x br.0 br.1 br.2 br.3 z at n o fuel br.5 (subst (λ (v : Body). Lies ns text at v z) br.4 l) (subst (λ (v : Body). depth v ≤ fuel) br.4 deep) next)
     inside x true b z at n o fuel br l deep next =
         subst (λ (v : Body). Inside x true v z n o fuel) (sym br.3)
-        (inside-while x br.0 br.1 br.2 z at n o fuel br.4 (subst (λ (v : Body). Lies ns text at v z) br.3 l) (subst (λ (v : Body). depth v ≤ fuel) br.3 deep) next)
+        (inside_while x br.0 br.1 br.2 z at n o fuel br.4 (subst (λ (v : Body). Lies ns text at v z) br.3 l) (subst (λ (v : Body). depth v ≤ fuel) br.3 deep) next)
 
-    else-halts : (lines t : List ℕ) (d : Body) → ElseLies ns lines d → Halts (lines ++ (codes "end" ++ (10 ∷ t)))
-    else-halts lines t d (none p q) = at_end t (ap (λ v. v ++ (codes "end" ++ (10 ∷ t))) q)
-    else-halts lines t d (some w p q) = at_else (w ++ (codes "end" ++ (10 ∷ t))) (ap (λ v. v ++ (codes "end" ++ (10 ∷ t))) q)
+    else_halts : (lines t : List ℕ) (d : Body) → ElseLies ns lines d → Halts (lines ++ (codes "end" ++ (10 ∷ t)))
+    else_halts lines t d (none p q) = at_end t (ap (λ v. v ++ (codes "end" ++ (10 ∷ t))) q)
+    else_halts lines t d (some w p q) = at_else (w ++ (codes "end" ++ (10 ∷ t))) (ap (λ v. v ++ (codes "end" ++ (10 ∷ t))) q)
 
     module _ (x : ℕ) (looped : Bool) (b : Body) (z : List ℕ) (p inner : Place) (f fuel room : ℕ) (g : Given ns text p.at b z p.entry fuel room) (br : Branches ns text x looped b)
         (af : After text p inner) (hf : fuel ≡ suc f) where
       pub the_inside : Inside x looped b z inner.at p.entry fuel
       the_inside = inside x looped b z p.at inner.at p.entry fuel br g.lies g.shallow af.next
 
-      pub given-first : Given ns text inner.at the_inside.first (the_inside.lines ++ (codes "end" ++ (10 ∷ (the_inside.behind ++ z)))) inner.entry f room
-      given-first =
+      pub given_first : Given ns text inner.at the_inside.first (the_inside.lines ++ (codes "end" ++ (10 ∷ (the_inside.behind ++ z)))) inner.entry f room
+      given_first =
           record {
             names = names;
             lies = the_inside.lies;
-            halts = else-halts the_inside.lines (the_inside.behind ++ z) the_inside.second the_inside.is;
-            shallow = omega (arith, the_inside.deep-first);
+            halts = else_halts the_inside.lines (the_inside.behind ++ z) the_inside.second the_inside.is;
+            shallow = omega (arith, the_inside.deep_first);
             room_for = omega (arith, the_inside.count, af.entry, g.room_for);
           }
 
       module _ (w0 w1 : List ℕ) (first : Place) (made : LinesMade text w0 w1 f room inner first) where
         first_done : Done ns text w1 (the_inside.lines ++ (codes "end" ++ (10 ∷ (the_inside.behind ++ z)))) inner.entry the_inside.first first
-        first_done = made.done ns the_inside.first _ given-first
+        first_done = made.done ns the_inside.first _ given_first
 
         first_entry : first.entry ≡ suc p.entry + lines_of the_inside.first
         first_entry = omega (arith, first_done.count, af.entry)
 
-        pub first-room : first.entry < room
-        first-room = omega (arith, first_entry, the_inside.count, g.room_for)
+        pub first_room : first.entry < room
+        first_room = omega (arith, first_entry, the_inside.count, g.room_for)
 
-        pub given-else : ElseGiven ns text first.at the_inside.second (the_inside.behind ++ z) first.entry f room
-        given-else =
+        pub given_else : ElseGiven ns text first.at the_inside.second (the_inside.behind ++ z) first.entry f room
+        given_else =
             record {
               names = names;
               lines = the_inside.lines;
               is = the_inside.is;
               here = first_done.there;
-              shallow = omega (arith, the_inside.deep-second);
+              shallow = omega (arith, the_inside.deep_second);
               room_for = omega (arith, first_entry, the_inside.count, g.room_for);
             }
 
         module _ (w2 : List ℕ) (last : Place) (else-made : ElseMade text w1 w2 f room first last) where
-          else-done : (drop last.at text ≡ codes "end" ++ (10 ∷ (the_inside.behind ++ z))) × (last.entry ≡ first.entry + else_lines_spec the_inside.second) × Codes (Named ns) text (length ns) (entry_at w2) (suc first.entry) the_inside.second
-          else-done = else-made.done ns the_inside.second (the_inside.behind ++ z) given-else
+          else_done : (drop last.at text ≡ codes "end" ++ (10 ∷ (the_inside.behind ++ z))) × (last.entry ≡ first.entry + else_lines_spec the_inside.second) × Codes (Named ns) text (length ns) (entry_at w2) (suc first.entry) the_inside.second
+          else_done = else-made.done ns the_inside.second (the_inside.behind ++ z) given_else
 
-          pub last-room : last.entry < room
-          last-room = omega (arith, else-done.1, first_entry, the_inside.count, g.room_for)
+          pub last_room : last.entry < room
+          last_room = omega (arith, else_done.1, first_entry, the_inside.count, g.room_for)
 
           module _ (w3 : List ℕ) (q : Place) (closed : Closed w2 w3 p first last x looped) (aq : After text last q) where
-            up-last : first.entry ≤ last.entry
-            up-last = else-made.up
+            up_last : first.entry ≤ last.entry
+            up_last = else-made.up
 
             -- The first lines are as they were made, and so are the second.
-            first-codes : (after : List ℕ) → SameEntries w3 after p.entry q.entry → Codes (Named ns) text (length ns) (entry_at after) (suc p.entry) the_inside.first
+            first_codes : (after : List ℕ) → SameEntries w3 after p.entry q.entry → Codes (Named ns) text (length ns) (entry_at after) (suc p.entry) the_inside.first
             unfolding SameEntries
-            first-codes after same =
+            first_codes after same =
                 codes_same (Named ns) text (length ns) (entry_at w1) (entry_at after) (suc p.entry) the_inside.first
                 (λ i lo hi.
                 let fe = first_entry in
-                let ul = up-last in
+                let ul = up_last in
                 let qe = aq.entry in
                 let lt : i < first.entry = omega arith in
                 same i (omega arith) (omega arith)
@@ -206,13 +206,13 @@ module _ (ns : List (List ℕ)) (text : List ℕ) where
                 ∙ kept_entry w1 w2 (suc first.entry) (suc last.entry) i else-made.kept (inl (omega arith)))
                 (subst (λ (n : ℕ). Codes (Named ns) text (length ns) (entry_at w1) n the_inside.first) af.entry first_done.stands)
 
-            second-codes : (after : List ℕ) → SameEntries w3 after p.entry q.entry → Codes (Named ns) text (length ns) (entry_at after) (suc first.entry) the_inside.second
+            second_codes : (after : List ℕ) → SameEntries w3 after p.entry q.entry → Codes (Named ns) text (length ns) (entry_at after) (suc first.entry) the_inside.second
             unfolding SameEntries
-            second-codes after same =
+            second_codes after same =
                 codes_same (Named ns) text (length ns) (entry_at w2) (entry_at after) (suc first.entry) the_inside.second
                 (λ i lo hi.
                 let fe = first_entry in
-                let le = else-done.1 in
+                let le = else_done.1 in
                 let qe = aq.entry in
                 let lt : i < last.entry =
                 elim (cases_Bool (ended the_inside.second)) [
@@ -220,25 +220,25 @@ module _ (ns : List (List ℕ)) (text : List ℕ) where
                   | inr y ↦ omega (arith, else-some the_inside.second y)
                 ] in
                 same i (omega arith) (omega arith) ∙ closed.others i (λ e. omega arith) (λ e. omega arith) (λ e. omega arith))
-                else-done.2
+                else_done.2
 
-            pub branch-part : Part ns text w3 z p.entry b fuel q
+            pub branch_part : Part ns text w3 z p.entry b fuel q
             unfolding SameEntries each_byte
-            branch-part =
+            branch_part =
                 let fe = first_entry in
-                let le = else-done.1 in
+                let le = else_done.1 in
                 let qe = aq.entry in
                 record {
                   rest = the_inside.rest;
-                  lies = record { spelt = the_inside.behind; spells = the_inside.spells; here = next-is text (codes "end") (the_inside.behind ++ z) last.at q.at aq.next else-done.0 refl };
-                  shallow = the_inside.deep-rest;
+                  lies = record { spelt = the_inside.behind; spells = the_inside.spells; here = next_is text (codes "end") (the_inside.behind ++ z) last.at q.at aq.next else_done.0 refl };
+                  shallow = the_inside.deep_rest;
                   count = omega (arith, the_inside.count);
                   stands = λ after same cr.
-                      the_inside.codes-on after first.entry last.entry fe le
+                      the_inside.codes_on after first.entry last.entry fe le
                       (same p.entry (omega arith) (omega arith) ∙ closed.branch)
                       (same first.entry (omega arith) (omega arith) ∙ closed.first_jump)
                       (same last.entry (omega arith) (omega arith) ∙ closed.last_jump)
-                      (first-codes after same)
-                      (second-codes after same)
+                      (first_codes after same)
+                      (second_codes after same)
                       (subst (λ (n : ℕ). Codes (Named ns) text (length ns) (entry_at after) n the_inside.rest) qe cr);
                 }

@@ -3,7 +3,7 @@ use Rattle.std.proofs.Common.{◌≡◌, ℕ, zero, suc, ◌+◌, ◌-◌, ◌*�
 use Rattle.std.proofs.lemmas.Bool.{cases_Bool, true≢false, both_ways}
 use Rattle.lanes.specs.Syntax.{Body, Expr, ended, end, when, while}
 use Rattle.grammar.specs.declared.keywords.Keyword.TheVariants.{Else, End}
-use Rattle.grammar.specs.Spelling.{each_byte, Spells-expr, Spells-body, Named}
+use Rattle.grammar.specs.Spelling.{each_byte, SpellsExpr, SpellsBody, Named}
 use Rattle.grammar.specs.Stands.{Stands}
 use Rattle.grammar.specs.Taken.{depth}
 use Rattle.code.specs.declared.step.Step.{Step}
@@ -16,7 +16,7 @@ use Rattle.code.specs.Code.{Codes}
 use Rattle.code.specs.Scan.{Scan}
 use Rattle.code.specs.Make.{entry_at, Kept, SameEntries, Lies, Halts, at_end, Names, NextLine, After, Given, Done, Part, Moved, LinesMade, LineMade, Branches, BranchMade, ElseLies, none, some, ElseGiven, ElseMade, Closed, stopping, plain_step}
 use Rattle.code.proofs.Left.{else-none, else-some, else-room, ended_is, lines_none, no_lines}
-use Rattle.code.proofs.Tells.{next-is}
+use Rattle.code.proofs.Tells.{next_is}
 use Rattle.code.proofs.Heads.{keyword-scan}
 use Rattle.code.proofs.Bodies.{told, Told, halted, plain, branch, Plain, branching, branch_line}
 use Rattle.code.proofs.Inside.{kept_entry, kept-wider, kept-both, kept-none, wrote_kept}
@@ -109,8 +109,8 @@ module _ (ns : List (List ℕ)) (text z : List ℕ) (fuel room : ℕ) where
             one.stands after (λ i lo hi. same i lo (omega arith) ∙ kept_entry w v p.entry q.entry i k (inl hi)) (two.stands after (λ i lo hi. same i (omega arith) hi) c);
       }
 
-  end-spelt : (t : List ℕ) → Spells-body (Named ns) end t → t ≡ []
-  unfolding Spells-body
+  end-spelt : (t : List ℕ) → SpellsBody (Named ns) end t → t ≡ []
+  unfolding SpellsBody
   end-spelt t s = s
 
   end-codes : (after : List ℕ) (o : ℕ) → Codes (Named ns) text (length ns) (entry_at after) o end
@@ -121,7 +121,7 @@ module _ (ns : List (List ℕ)) (text z : List ℕ) (fuel room : ℕ) where
   part-done : (w : List ℕ) (o : ℕ) (b : Body) (p : Place) → (part : Part ns text w z o b fuel p) → part.rest ≡ end → Done ns text w z o b p
   unfolding SameEntries
   part-done w o b p part q =
-      let s : part.lies.spelt ≡ [] = end-spelt _ (subst (λ (v : Body). Spells-body (Named ns) v part.lies.spelt) q part.lies.spells) in
+      let s : part.lies.spelt ≡ [] = end-spelt _ (subst (λ (v : Body). SpellsBody (Named ns) v part.lies.spelt) q part.lies.spells) in
       record {
         there = part.lies.here ∙ ap (λ t. t ++ z) s;
         count = omega (arith, part.count, no_lines part.rest q);
@@ -162,7 +162,7 @@ module _ (ns : List (List ℕ)) (text z : List ℕ) (fuel room : ℕ) where
               shallow = omega (arith, n.deep, g.shallow);
               count = omega (arith, n.lines);
               stands = λ after same c.
-                  n.codes-on after p.entry
+                  n.codes_on after p.entry
                   (same p.entry (omega arith) (omega arith) ∙ wrote.here (suc p.entry) (omega arith) ∙ st ∙ ap (plain_step r) qe)
                   (subst (λ (m : ℕ). Codes (Named ns) text (length ns) (entry_at after) m n.rest) qe c);
             }
@@ -183,10 +183,10 @@ module _ (ns : List (List ℕ)) (text z : List ℕ) (fuel room : ℕ) where
 -- The else of an if.
 module _ (ns : List (List ℕ)) (text : List ℕ) (fuel room : ℕ) (d : Body) (z : List ℕ) where
   -- Where no else stands there are no second lines.
-  pub no-else : (w : List ℕ) (q : Place) (r : Line) → Scan text q.at r → (r ≡ Otherwise → ⊥) → ElseGiven ns text q.at d z q.entry fuel room
+  pub no_else : (w : List ℕ) (q : Place) (r : Line) → Scan text q.at r → (r ≡ Otherwise → ⊥) → ElseGiven ns text q.at d z q.entry fuel room
       → (drop q.at text ≡ codes "end" ++ (10 ∷ z)) × (q.entry ≡ q.entry + else_lines_spec d) × Codes (Named ns) text (length ns) (entry_at w) (suc q.entry) d
   unfolding ended
-  no-else w q r scan h g =
+  no_else w q r scan h g =
       elim g.is [
         | none p y ↦ (
           g.here ∙ ap (λ t. t ++ (codes "end" ++ (10 ∷ z))) y,
@@ -209,7 +209,7 @@ module _ (ns : List (List ℕ)) (text : List ℕ) (fuel room : ℕ) (d : Body) (
         | some u s y ↦
             record {
               names = g.names;
-              lies = record { spelt = u; spells = s; here = next-is text (codes "else") (u ++ (codes "end" ++ (10 ∷ z))) q.at i.at af.next (g.here ∙ ap (λ t. t ++ (codes "end" ++ (10 ∷ z))) y) refl };
+              lies = record { spelt = u; spells = s; here = next_is text (codes "else") (u ++ (codes "end" ++ (10 ∷ z))) q.at i.at af.next (g.here ∙ ap (λ t. t ++ (codes "end" ++ (10 ∷ z))) y) refl };
               halts = at_end z refl;
               shallow = g.shallow;
               room_for = omega (arith, g.room_for, af.entry, else-room d);

@@ -81,91 +81,91 @@ module _ (at : ℕ → Body) where
     moved : (m n : ℕ) → m ≡ n → Fine m → Fine n
     moved m n e h = subst Fine e h
 
-    fine-by : (o : ℕ) (s : Step) → code o ≡ s → Does N text at s (at o) → Goes owns lines s → Onward code o s → Fine o
-    fine-by o s q d g w = record { does = rw q d; goes = rw q g; onward = rw q w }
+    fine_by : (o : ℕ) (s : Step) → code o ≡ s → Does N text at s (at o) → Goes owns lines s → Onward code o s → Fine o
+    fine_by o s q d g w = record { does = rw q d; goes = rw q g; onward = rw q w }
 
     -- What is left at an entry and at the next.
     here : (o : ℕ) (b c k : Body) → lines_of b ≡ suc (lines_of c) → ((i : ℕ) → left_at b (suc i) ≡ left_at c i) → Sits o b k → (at o ≡ followed b k) × (at (suc o) ≡ followed c k)
     here o b c k n l s = (sits_here o b k s, sits_here (suc o) c k (sits-next o b c k n l s))
 
-    codes-fine : (o : ℕ) (b k : Body) → Codes N text owns code o b → Sits o b k → o + lines_of b ≤ lines → (i : ℕ) → i < lines_of b → Fine (o + i)
+    codes_fine : (o : ℕ) (b k : Body) → Codes N text owns code o b → Sits o b k → o + lines_of b ≤ lines → (i : ℕ) → i < lines_of b → Fine (o + i)
     unfolding Codes left_at lines_of followed
-    codes-fine o end k cs s r i h = let z : ⊥ = omega arith in absurd z
-    codes-fine o (put j e b) k cs s r i h =
+    codes_fine o end k cs s r i h = let z : ⊥ = omega arith in absurd z
+    codes_fine o (put j e b) k cs s r i h =
         let p = here o (put j e b) b k refl (λ _. refl) s in
         let n = sits-next o (put j e b) b k refl (λ _. refl) s in
         from_next Fine o b i h
-        (fine-by o _ cs.1.2 (e, cs.1.1, rw p.1 p.0) (cs.0, omega arith) refl)
-        (codes-fine (suc o) b k cs.2 n (omega arith))
-    codes-fine o (read_shared j e b) k cs s r i h =
+        (fine_by o _ cs.1.2 (e, cs.1.1, rw p.1 p.0) (cs.0, omega arith) refl)
+        (codes_fine (suc o) b k cs.2 n (omega arith))
+    codes_fine o (read_shared j e b) k cs s r i h =
         let p = here o (read_shared j e b) b k refl (λ _. refl) s in
         let n = sits-next o (read_shared j e b) b k refl (λ _. refl) s in
         from_next Fine o b i h
-        (fine-by o _ cs.1.2 (e, cs.1.1, rw p.1 p.0) (cs.0, omega arith) refl)
-        (codes-fine (suc o) b k cs.2 n (omega arith))
-    codes-fine o (write_shared e f b) k cs s r i h =
+        (fine_by o _ cs.1.2 (e, cs.1.1, rw p.1 p.0) (cs.0, omega arith) refl)
+        (codes_fine (suc o) b k cs.2 n (omega arith))
+    codes_fine o (write_shared e f b) k cs s r i h =
         let p = here o (write_shared e f b) b k refl (λ _. refl) s in
         let n = sits-next o (write_shared e f b) b k refl (λ _. refl) s in
         from_next Fine o b i h
-        (fine-by o _ cs.0.4 (e, f, cs.0.2, cs.0.3, rw p.1 p.0) (omega arith) refl)
-        (codes-fine (suc o) b k cs.1 n (omega arith))
-    codes-fine o (read_all j e b) k cs s r i h =
+        (fine_by o _ cs.0.4 (e, f, cs.0.2, cs.0.3, rw p.1 p.0) (omega arith) refl)
+        (codes_fine (suc o) b k cs.1 n (omega arith))
+    codes_fine o (read_all j e b) k cs s r i h =
         let p = here o (read_all j e b) b k refl (λ _. refl) s in
         let n = sits-next o (read_all j e b) b k refl (λ _. refl) s in
         from_next Fine o b i h
-        (fine-by o _ cs.1.2 (e, cs.1.1, rw p.1 p.0) (cs.0, omega arith) refl)
-        (codes-fine (suc o) b k cs.2 n (omega arith))
-    codes-fine o (write_all e f b) k cs s r i h =
+        (fine_by o _ cs.1.2 (e, cs.1.1, rw p.1 p.0) (cs.0, omega arith) refl)
+        (codes_fine (suc o) b k cs.2 n (omega arith))
+    codes_fine o (write_all e f b) k cs s r i h =
         let p = here o (write_all e f b) b k refl (λ _. refl) s in
         let n = sits-next o (write_all e f b) b k refl (λ _. refl) s in
         from_next Fine o b i h
-        (fine-by o _ cs.0.4 (e, f, cs.0.2, cs.0.3, rw p.1 p.0) (omega arith) refl)
-        (codes-fine (suc o) b k cs.1 n (omega arith))
-    codes-fine o (barrier b) k cs s r i h =
+        (fine_by o _ cs.0.4 (e, f, cs.0.2, cs.0.3, rw p.1 p.0) (omega arith) refl)
+        (codes_fine (suc o) b k cs.1 n (omega arith))
+    codes_fine o (barrier b) k cs s r i h =
         let p = here o (barrier b) b k refl (λ _. refl) s in
         let n = sits-next o (barrier b) b k refl (λ _. refl) s in
         from_next Fine o b i h
-        (fine-by o _ cs.0 (rw p.1 p.0) (omega arith) refl)
-        (codes-fine (suc o) b k cs.1 n (omega arith))
-    codes-fine o (when e c d b) k cs s r i h =
+        (fine_by o _ cs.0 (rw p.1 p.0) (omega arith) refl)
+        (codes_fine (suc o) b k cs.1 n (omega arith))
+    codes_fine o (when e c d b) k cs s r i h =
         let n = when-lines e c d b in
         let first = sits-first o e c d b k s in
         let behind = sits-behind o e c d b k s in
         let join : suc o + suc (lines_of c) + else_lines_spec d ≤ lines = omega arith in
         let to = sits_here _ b k behind in
         from-if Fine o e c d b i h
-        (fine-by o _ cs.0.2
+        (fine_by o _ cs.0.2
         (e, cs.0.1, record { first = c; second = d; behind = followed b k; is = sits_here o (when e c d b) k s; yes = sits_here _ c _ first; no = second-here o e c d b k s; join = to })
         (omega arith, omega arith, join) (refl, omega arith, omega arith))
-        (codes-fine (suc o) c (followed b k) cs.1 first (omega arith))
-        (fine-by _ _ cs.2 (sits-last (suc o) c (followed b k) first ∙ sym to) join (inl (omega arith)))
+        (codes_fine (suc o) c (followed b k) cs.1 first (omega arith))
+        (fine_by _ _ cs.2 (sits-last (suc o) c (followed b k) first ∙ sym to) join (inl (omega arith)))
         (λ j g. elim (cases_Bool (ended d)) [
           | inl q ↦ let z : lines_of d ≡ 0 = ap lines_of (ended_is d q) in let y : ⊥ = omega arith in absurd y
-          | inr q ↦ let z = else-some d q in codes-fine (suc o + suc (lines_of c)) d (followed b k) cs.3 (sits-second o e c d b k q s) (omega arith) j g
+          | inr q ↦ let z = else-some d q in codes_fine (suc o + suc (lines_of c)) d (followed b k) cs.3 (sits-second o e c d b k q s) (omega arith) j g
         ])
-        (λ q. fine-by _ _ (cs.4 q) (sits-last (suc o + suc (lines_of c)) d (followed b k) (sits-second o e c d b k q s) ∙ sym to) join (inl (let z = else-some d q in omega arith)))
-        (codes-fine (suc o + suc (lines_of c) + else_lines_spec d) b k cs.5 behind (omega arith))
-    codes-fine o (while e c b) k cs s r i h =
+        (λ q. fine_by _ _ (cs.4 q) (sits-last (suc o + suc (lines_of c)) d (followed b k) (sits-second o e c d b k q s) ∙ sym to) join (inl (let z = else-some d q in omega arith)))
+        (codes_fine (suc o + suc (lines_of c) + else_lines_spec d) b k cs.5 behind (omega arith))
+    codes_fine o (while e c b) k cs s r i h =
         let inner = sits-inner o e c b k s in
         let behind = sits-after o e c b k s in
         let join : suc o + suc (lines_of c) ≤ lines = omega arith in
         let to = sits_here _ b k behind in
         from-while Fine o e c b i h
-        (fine-by o _ cs.0.2
+        (fine_by o _ cs.0.2
         (e, cs.0.1, record { inner = c; behind = followed b k; is = sits_here o (while e c b) k s; yes = sits_here _ c _ inner; no = to; join = to })
         (omega arith, join, join) (refl, omega arith, omega arith))
-        (codes-fine (suc o) c (while e c (followed b k)) cs.1 inner (omega arith))
-        (fine-by _ _ cs.2 (sits-last (suc o) c (while e c (followed b k)) inner ∙ sym (sits_here o (while e c b) k s)) (omega arith) (inr (ap is_loop cs.0.2)))
-        (codes-fine (suc o + suc (lines_of c)) b k cs.3 behind (omega arith))
+        (codes_fine (suc o) c (while e c (followed b k)) cs.1 inner (omega arith))
+        (fine_by _ _ cs.2 (sits-last (suc o) c (while e c (followed b k)) inner ∙ sym (sits_here o (while e c b) k s)) (omega arith) (inr (ap is_loop cs.0.2)))
+        (codes_fine (suc o + suc (lines_of c)) b k cs.3 behind (omega arith))
 
 pub code-right : CodeRight
 unfolding CodeRight Sits
 code-right ns text code b cs e =
     let fine : (i : ℕ) → i ≤ lines_of b → Fine (left_at b) (Named ns) text (length ns) (lines_of b) code i =
     λ i h. elim (cases_order i (lines_of b)) [
-      | inl p ↦ moved (left_at b) (Named ns) text (length ns) (lines_of b) code (lines_of b) i (sym p) (fine-by (left_at b) (Named ns) text (length ns) (lines_of b) code (lines_of b) End e (left-last b) tt tt)
+      | inl p ↦ moved (left_at b) (Named ns) text (length ns) (lines_of b) code (lines_of b) i (sym p) (fine_by (left_at b) (Named ns) text (length ns) (lines_of b) code (lines_of b) End e (left-last b) tt tt)
       | inr (inl p) ↦ moved (left_at b) (Named ns) text (length ns) (lines_of b) code (0 + i) i (omega arith)
-          (codes-fine (left_at b) (Named ns) text (length ns) (lines_of b) code 0 b end cs (λ j g. let q : 0 + j ≡ j = omega arith in ap (left_at b) q ∙ sym (followed-end (left_at b j))) (omega arith) i p)
+          (codes_fine (left_at b) (Named ns) text (length ns) (lines_of b) code 0 b end cs (λ j g. let q : 0 + j ≡ j = omega arith in ap (left_at b) q ∙ sym (followed-end (left_at b j))) (omega arith) i p)
       | inr (inr p) ↦ let z : ⊥ = omega arith in absurd z
     ] in
     record { does = λ i h. (fine i h).does; goes = λ i h. (fine i h).goes; onward = λ i h. (fine i h).onward }

@@ -6,7 +6,7 @@ use Rattle.std.proofs.lemmas.Bool.{cases_Bool, true≢false, both_ways, and_part
 use Rattle.std.proofs.lemmas.Bool.Decides.{nat_tests}
 use Rattle.lanes.specs.Syntax.{Body, Expr, Program, ended, end, put, read_shared, write_shared, read_all, write_all, barrier, when, while}
 use Rattle.grammar.specs.declared.keywords.Keyword.TheVariants.{Own, Cells}
-use Rattle.grammar.specs.Spelling.{word_byte, digit, each_byte, IsName, Spells-body, Spelled, Named, OwnLine, CellsLine}
+use Rattle.grammar.specs.Spelling.{word_byte, digit, each_byte, IsName, SpellsBody, Spelled, Named, OwnLine, CellsLine}
 use Rattle.grammar.specs.Stands.{Apart}
 use Rattle.grammar.specs.Names.{NamesIn}
 use Rattle.grammar.specs.Taken.{Taken, Distinct, depth, lines_in, lines_within}
@@ -28,7 +28,7 @@ use Rattle.code.proofs.Settles.{codes-start}
 use Rattle.code.proofs.Regions.{codes-regions}
 use Rattle.code.proofs.Texts.{each_append, each_weaken}
 use Rattle.code.proofs.Exprs.{digit-word, word-in_line}
-use Rattle.code.proofs.Tells.{next-is}
+use Rattle.code.proofs.Tells.{next_is}
 use Rattle.code.proofs.Heads.{keyword-scan}
 use Rattle.code.proofs.Bodies.{told, halted, plain, branch, branch_line, heading}
 use Rattle.code.proofs.Inside.{codes_same}
@@ -81,8 +81,8 @@ module _ (N : ℕ → List ℕ → Type 0) where
   two-lines m u n v z t q =
       rw q (omega (arith, lines-append m (u ++ (n ++ (v ++ (10 ∷ z)))), lines-append u (n ++ (v ++ (10 ∷ z))), lines-append n (v ++ (10 ∷ z)), line-more v z))
 
-  pub body-lines : (b : Body) (t : List ℕ) → Spells-body N b t → lines_of b ≤ lines_in t
-  unfolding Spells-body lines_of else_lines_spec
+  pub body-lines : (b : Body) (t : List ℕ) → SpellsBody N b t → lines_of b ≤ lines_in t
+  unfolding SpellsBody lines_of else_lines_spec
   body-lines end t s = omega arith
   body-lines (put k e b) t s = omega (arith, named-lines s.0 (codes " = ") s.1 s.2 t s.6, body-lines b s.2 s.5)
   body-lines (read_shared k e b) t s = omega (arith, named-lines s.0 (codes " = cell ") s.1 s.2 t s.6, body-lines b s.2 s.5)
@@ -120,8 +120,8 @@ module _ (N : ℕ → List ℕ → Type 0) where
 -- The names of a text that was taken.
 module _ (ns : List (List ℕ)) where
   -- Without own numbers no body begins with the byte of `own`.
-  body-first : (b : Body) (t : List ℕ) → Spells-body (Named ns) b t → ns ≡ [] → get_or t 0 0 ≢ 111
-  unfolding Spells-body
+  body-first : (b : Body) (t : List ℕ) → SpellsBody (Named ns) b t → ns ≡ [] → get_or t 0 0 ≢ 111
+  unfolding SpellsBody
   body-first end t s n q = omega (arith, sym q ∙ ap (λ l. get_or l 0 0) s)
   body-first (put k e b) t s n q = omega (arith, s.3.0, ap length n)
   body-first (read_shared k e b) t s n q = omega (arith, s.3.0, ap length n)
@@ -132,7 +132,7 @@ module _ (ns : List (List ℕ)) where
   body-first (when e c d b) t s n q = omega (arith, sym q ∙ ap (λ l. get_or l 0 0) s.8)
   body-first (while e c b) t s n q = omega (arith, sym q ∙ ap (λ l. get_or l 0 0) s.7)
 
-  cells-first : (m : ℕ) (b : Body) (c t : List ℕ) → CellsLine m c → Spells-body (Named ns) b t → ns ≡ [] → get_or (c ++ t) 0 0 ≢ 111
+  cells-first : (m : ℕ) (b : Body) (c t : List ℕ) → CellsLine m c → SpellsBody (Named ns) b t → ns ≡ [] → get_or (c ++ t) 0 0 ≢ 111
   cells-first m b c t h s n q =
       elim h [
         | inl p ↦ body-first b t s n (sym (ap (λ l. get_or (l ++ t) 0 0) p.1) ∙ q)
@@ -281,8 +281,8 @@ module _ (text : List ℕ) (p : Place) (r : Line) (scan : Scan text p.at r) wher
         within = w;
         entry = e;
         line = inr up;
-        own_line = λ u z d a l. next-is text (codes "own" ++ u) z p.at q.at n d (each_append in_line (codes "own") u refl l);
-        cells_line_spec = λ u z d a l. next-is text (codes "cells" ++ u) z p.at q.at n d (each_append in_line (codes "cells") u refl l);
+        own_line = λ u z d a l. next_is text (codes "own" ++ u) z p.at q.at n d (each_append in_line (codes "own") u refl l);
+        cells_line_spec = λ u z d a l. next_is text (codes "cells" ++ u) z p.at q.at n d (each_append in_line (codes "cells") u refl l);
         stays = λ ns b z names l halts.
             elim (told ns text names p.at r scan z b l halts) [
               | halted y s k ↦ absurd (both_ways (heading r) k (ap heading h))

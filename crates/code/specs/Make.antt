@@ -1,7 +1,7 @@
 -- How a text that was taken is made into steps.
 use Rattle.std.specs.Prelude.{◌≡◌, ℕ, suc, ◌+◌, ◌*◌, ◌<◌, ◌≤◌, Bool, true, false, cond, ◌⊎◌, List, [], ◌∷◌, ◌++◌, length, drop, codes, ◌≢◌, slice_index}
 use Rattle.lanes.specs.Syntax.{Body, Expr, Program, end, when, while}
-use Rattle.grammar.specs.Spelling.{Named, Spells-body, each_byte}
+use Rattle.grammar.specs.Spelling.{Named, SpellsBody, each_byte}
 use Rattle.grammar.specs.Stands.{Stands, Apart}
 use Rattle.grammar.specs.Names.{NamesIn, Distinct}
 use Rattle.grammar.specs.Taken.{depth, lines_in}
@@ -59,7 +59,7 @@ plain_step Nothing n = SEnd
 -- From byte i on the text has the lines of the body b, and then z.
 pub record Lies (ns : List (List ℕ)) (text : List ℕ) (i : ℕ) (b : Body) (z : List ℕ) : Type 0 where
   pub spelt : List ℕ
-  pub spells : Spells-body (Named ns) b spelt
+  pub spells : SpellsBody (Named ns) b spelt
   pub here : drop i text ≡ spelt ++ z
 
 -- What is behind the lines of a body: nothing, an else or an end.
@@ -139,7 +139,7 @@ pub record BranchMade (text words after : List ℕ) (fuel room x : ℕ) (looped 
 -- The lines of an else, or nothing if there is none.
 pub data ElseLies (ns : List (List ℕ)) (y : List ℕ) (d : Body) : Type 0 where
   none : d ≡ end → y ≡ [] → ElseLies ns y d
-  some : (w : List ℕ) → Spells-body (Named ns) d w → y ≡ codes "else" ++ (10 ∷ w) → ElseLies ns y d
+  some : (w : List ℕ) → SpellsBody (Named ns) d w → y ≡ codes "else" ++ (10 ∷ w) → ElseLies ns y d
 
 -- At byte i, behind the first lines of an if, stands its else or its end, which is entry o.
 pub record ElseGiven (ns : List (List ℕ)) (text : List ℕ) (i : ℕ) (d : Body) (z : List ℕ) (o fuel room : ℕ) : Type 0 where

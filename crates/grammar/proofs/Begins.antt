@@ -2,12 +2,12 @@
 use Rattle.std.proofs.Common.{◌≡◌, ℕ, ◌+◌, ◌<◌, ◌≤◌, ◌≢◌, List, [], ◌∷◌, ◌++◌, length, get_or, take, codes, sym, refl, ap, ◌∙◌, subst, inl, inr, arith}
 use Rattle.std.proofs.lemmas.List.{get_or-take}
 use Rattle.lanes.specs.Syntax.{Body, end, put, read_shared, write_shared, read_all, write_all, barrier, when, while, Program}
-use Rattle.grammar.specs.Spelling.{Named, Spells-body, CellsLine, Spelled}
+use Rattle.grammar.specs.Spelling.{Named, SpellsBody, CellsLine, Spelled}
 use Rattle.grammar.specs.Names.{NamesIn}
 
 -- Without names, no line of a body begins with the first letter of `own`.
-body-begins : (ns : List (List ℕ)) → ns ≡ [] → (b : Body) (t : List ℕ) → Spells-body (Named ns) b t → get_or t 0 0 ≢ 111
-unfolding Spells-body
+body-begins : (ns : List (List ℕ)) → ns ≡ [] → (b : Body) (t : List ℕ) → SpellsBody (Named ns) b t → get_or t 0 0 ≢ 111
+unfolding SpellsBody
 body-begins ns z end t s q = omega (arith, q, ap (λ x. get_or x 0 0) s)
 body-begins ns z (put k e b) t s q = omega (arith, s.3.0, ap length z)
 body-begins ns z (read_shared k e b) t s q = omega (arith, s.3.0, ap length z)
@@ -18,7 +18,7 @@ body-begins ns z (barrier b) t s q = omega (arith, q, ap (λ x. get_or x 0 0) s.
 body-begins ns z (when e c d b) t s q = omega (arith, q, ap (λ x. get_or x 0 0) s.8)
 body-begins ns z (while e c b) t s q = omega (arith, q, ap (λ x. get_or x 0 0) s.7)
 
-cells-begin : (ns : List (List ℕ)) → ns ≡ [] → (p : Program) (c t : List ℕ) → CellsLine p.shared c → Spells-body (Named ns) p.body t → get_or (c ++ t) 0 0 ≢ 111
+cells-begin : (ns : List (List ℕ)) → ns ≡ [] → (p : Program) (c t : List ℕ) → CellsLine p.shared c → SpellsBody (Named ns) p.body t → get_or (c ++ t) 0 0 ≢ 111
 cells-begin ns z p c t h s =
     elim h [
       | inl x ↦ (λ q. body-begins ns z p.body t s (ap (λ w. get_or (w ++ t) 0 0) (sym x.1) ∙ q))

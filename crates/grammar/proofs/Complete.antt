@@ -1,11 +1,11 @@
 -- What is spelled at a byte is read there.
 use Rattle.std.proofs.Common.{◌≡◌, ℕ, zero, suc, ◌+◌, ◌-◌, ◌*◌, ◌<◌, ◌≤◌, max, Bool, true, false, cond, not, ◌&&◌, ◌||◌, eqb, ◌≢◌, ◌⊎◌, List, [], ◌∷◌, ◌++◌, length, get_or, take, drop, Some, None, Ok, Err, codes, Option, Result, sym, refl, ap, ◌∙◌, inl, inr, add-zero, arith}
-use Rattle.std.proofs.lemmas.List.{append_assoc, append-nil, length-append, drop-drop, drop_at, take_at, get_or-drop}
+use Rattle.std.proofs.lemmas.List.{append_assoc, append-nil, length_append, drop-drop, drop_at, take_at, get_or-drop}
 use Rattle.std.proofs.lemmas.Bool.{and_parts, or_parts, lt-ltb, lt-leb, eq-eqb, ne_eqb}
 use Rattle.std.proofs.lemmas.Bool.Decides.{nat_tests}
 use Rattle.lanes.specs.Syntax.{Expr, fixed, var, lane, group, lanes, plus, minus, times, over, rest_of, less, same}
 use Rattle.lanes.specs.Told.{ExprFits}
-use Rattle.grammar.specs.Spelling.{letter, digit, word_byte, each_byte, same_bytes, one_of, keywords, decimal, IsName, IsNumber, infix_of, Spells-expr}
+use Rattle.grammar.specs.Spelling.{letter, digit, word_byte, each_byte, same_bytes, one_of, keywords, decimal, IsName, IsNumber, infix_of, SpellsExpr}
 use Rattle.grammar.specs.Stands.{Apart}
 use Rattle.grammar.specs.Runs.{run_of, written}
 use Rattle.grammar.specs.Walk.{key_of, key_at, word_part, word_at, word_atom, some_token, bytes_at, atom_at, operator_at, is_operator_spec, is_atom_spec, expr_at, and_then, number_part}
@@ -96,8 +96,8 @@ module _ (find : List ℕ → Option ℕ) (text : List ℕ) (i : ℕ) (u z : Lis
   pub key-done : key_at text i ≡ key_of u
   key-done = ap key_of (part-here word_byte text i u z bytes a e)
 
-pub digit-not-letter : (b : ℕ) → letter b ≡ true → digit b ≡ false
-digit-not-letter b h = grind (arith, nat_tests)
+pub digit-not_letter : (b : ℕ) → letter b ≡ true → digit b ≡ false
+digit-not_letter b h = grind (arith, nat_tests)
 
 pub not-open : (b : ℕ) → word_byte b ≡ true → eqb b 40 ≡ false
 not-open b h = grind (arith, nat_tests)

@@ -70,19 +70,19 @@ module _ (text t : List ℕ) where
   run_at f z i p h a = run-same f z (drop i text) (drop i t) (agree-drop p i (run_of f (drop i text)) text t h a)
 
   -- From byte i on, r is read in the text and s in t: the same, where they agree so far.
-  pub record Same-read {X : Type 0} (pos : X → ℕ) (i : ℕ) (r s : Result X Refusal) : Type 0 where
+  pub record SameRead {X : Type 0} (pos : X → ℕ) (i : ℕ) (r s : Result X Refusal) : Type 0 where
     pub ok : (x : X) → r ≡ Ok x → (i ≤ pos x) × (Agree (pos x) text t → s ≡ Ok x)
     pub err : (q : ℕ) → r ≡ Err (Shape q) → (i ≤ q) × (Agree q text t → s ≡ Err (Shape q))
 
   -- a step that ends where it begins, or is refused there
-  pub same_end : {X : Type 0} (pos : X → ℕ) (i : ℕ) (x : X) → i ≤ pos x → Same-read pos i (Ok x) (Ok x)
+  pub same_end : {X : Type 0} (pos : X → ℕ) (i : ℕ) (x : X) → i ≤ pos x → SameRead pos i (Ok x) (Ok x)
   same_end pos i x h = record { ok = λ y e. let q : x ≡ y = same_ok x y e in (rw (sym q) h, λ a. e); err = λ q e. let z : ◌≡◌ {A = ℕ} 0 1 = cc in absurd (omega arith) }
 
-  pub same_shape : {X : Type 0} (pos : X → ℕ) (i q : ℕ) → i ≤ q → Same-read pos i (Err (Shape q)) (Err (Shape q))
+  pub same_shape : {X : Type 0} (pos : X → ℕ) (i q : ℕ) → i ≤ q → SameRead pos i (Err (Shape q)) (Err (Shape q))
   same_shape pos i q h = record { ok = λ y e. absurd (not_err (Shape q) y e); err = λ p e. let n : q ≡ p = cc in (rw (sym n) h, λ a. e) }
 
   pub same_then : {X Y : Type 0} (pos : X → ℕ) (qos : Y → ℕ) (i : ℕ) (r s : Result X Refusal) (f g : X → Result Y Refusal)
-      → Same-read pos i r s → ((x : X) → Same-read qos (pos x) (f x) (g x)) → Same-read qos i (and_then r f) (and_then s g)
+      → SameRead pos i r s → ((x : X) → SameRead qos (pos x) (f x) (g x)) → SameRead qos i (and_then r f) (and_then s g)
   same_then pos qos i (Ok x) s f g a b =
       let p = a.ok x refl in
       record {
@@ -95,8 +95,8 @@ module _ (text t : List ℕ) where
         err = λ m e. let n : d ≡ Shape m = cc in let q = a.err m (ap (λ x. Err x) n) in (q.0, λ h. rw (q.1 h) refl);
       }
 
-  pub same_cond : {X : Type 0} (pos : X → ℕ) (i : ℕ) (c d : Bool) (r r' s s' : Result X Refusal) → (Agree i text t → c ≡ d) → Same-read pos i r s → Same-read pos i r' s'
-      → Same-read pos i (cond c r r') (cond d s s')
+  pub same_cond : {X : Type 0} (pos : X → ℕ) (i : ℕ) (c d : Bool) (r r' s s' : Result X Refusal) → (Agree i text t → c ≡ d) → SameRead pos i r s → SameRead pos i r' s'
+      → SameRead pos i (cond c r r') (cond d s s')
   same_cond pos i true d r r' s s' h a b =
       record {
         ok = λ x e. let q = a.ok x e in (q.0, λ g. rw (sym (h (agree_less (pos x) i text t q.0 g))) (q.1 g));
@@ -108,7 +108,7 @@ module _ (text t : List ℕ) where
         err = λ m e. let q = b.err m e in (q.0, λ g. rw (sym (h (agree_less m i text t q.0 g))) (q.1 g));
       }
 
-  pub same_from : {X : Type 0} (pos : X → ℕ) (i j : ℕ) (r s : Result X Refusal) → i ≤ j → Same-read pos j r s → Same-read pos i r s
+  pub same_from : {X : Type 0} (pos : X → ℕ) (i j : ℕ) (r s : Result X Refusal) → i ≤ j → SameRead pos j r s → SameRead pos i r s
   same_from pos i j r s h a =
       record {
         ok = λ x e. let q = a.ok x e in let l : i ≤ pos x = omega (arith, q.0) in (l, q.1);
@@ -116,5 +116,5 @@ module _ (text t : List ℕ) where
       }
 
   -- other refusals say nothing
-  pub same-other : {X : Type 0} (pos : X → ℕ) (i : ℕ) (d : Refusal) (s : Result X Refusal) → ((q : ℕ) → d ≡ Shape q → ⊥) → Same-read pos i (Err d) s
-  same-other pos i d s h = record { ok = λ x e. absurd (not_err d x e); err = λ q e. let n : d ≡ Shape q = cc in absurd (h q n) }
+  pub same_other : {X : Type 0} (pos : X → ℕ) (i : ℕ) (d : Refusal) (s : Result X Refusal) → ((q : ℕ) → d ≡ Shape q → ⊥) → SameRead pos i (Err d) s
+  same_other pos i d s h = record { ok = λ x e. absurd (not_err d x e); err = λ q e. let n : d ≡ Shape q = cc in absurd (h q n) }

@@ -7,7 +7,7 @@ use Rattle.grammar.specs.Spelling.{letter, digit, word_byte}
 use Rattle.grammar.specs.Refusals.{place_of}
 use Rattle.grammar.specs.Runs.{run_of, written}
 use Rattle.grammar.specs.Walk.{key_of, key_at, word_part, word_at, word_atom, some_token, bytes_at, atom_at, is_atom_spec, expr_at, and_then}
-use Rattle.grammar.specs.WalkLine.{cell_kind_spec, with-expr, closed, assign-at, assign-by, write-at, by_key, by_word, bare-at, within_line_spec, line_at}
+use Rattle.grammar.specs.WalkLine.{cell_kind_spec, with_expr_spec, closed, assign_at, assign_by, write_at, by_key, by_word, bare_at, within_line_spec, line_at}
 use Rattle.grammar.specs.declared.refusals.Refusal.{Refusal}
 use Rattle.grammar.specs.declared.refusals.Refusal.TheVariants.{Shape, Unknown, Large, Long}
 use Rattle.grammar.specs.declared.keywords.Keyword.{Keyword}
@@ -18,9 +18,9 @@ use Rattle.grammar.specs.declared.tokens.Word.TheVariants as word
 use Rattle.grammar.specs.declared.lines.Line.{Line}
 use Rattle.grammar.specs.declared.lines.Line.TheVariants as line
 use Rattle.grammar.specs.declared.lines.Lined.{Lined}
-use Rattle.grammar.proofs.Complete.{digit-not-letter, not-open}
+use Rattle.grammar.proofs.Complete.{digit-not_letter, not-open}
 use Rattle.grammar.proofs.Sound.{cond_cases, then-parts, not_err, same_ok, run_length, key-sound, Worded, word_sound}
-use Rattle.grammar.proofs.Goeson.{Agree, agree_less, agree-drop, run_at, run-least, Same-read, same_end, same_shape, same_then, same_cond, same_from, same-other}
+use Rattle.grammar.proofs.Goeson.{Agree, agree_less, agree-drop, run_at, run-least, SameRead, same_end, same_shape, same_then, same_cond, same_from, same_other}
 use Rattle.grammar.proofs.Goesonexpr.{itself, token_end, bytes_same, word_same, expr-same}
 
 -- two steps that went wrong: the first, or the second
@@ -108,8 +108,8 @@ module _ (find : List ℕ → Option ℕ) (text : List ℕ) where
 
   by-letter : (n j : ℕ) → letter (get_or text j 0) ≡ true → expr_at find text n j ≡ and_then (word_at find text j) (λ x. word_atom x.word x.end)
   unfolding expr_at atom_at
-  by-letter zero j l = rw (not-open (get_or text j 0) (letter-word (get_or text j 0) l), digit-not-letter (get_or text j 0) l) refl
-  by-letter (suc n) j l = rw (not-open (get_or text j 0) (letter-word (get_or text j 0) l), digit-not-letter (get_or text j 0) l) refl
+  by-letter zero j l = rw (not-open (get_or text j 0) (letter-word (get_or text j 0) l), digit-not_letter (get_or text j 0) l) refl
+  by-letter (suc n) j l = rw (not-open (get_or text j 0) (letter-word (get_or text j 0) l), digit-not_letter (get_or text j 0) l) refl
 
   ends-from : (n j q : ℕ) → Ends (expr_at find text n j) q → j ≤ q
   ends-from n j q (inl e) = ((expr-same text text find n j).ok q e).0
@@ -146,24 +146,24 @@ module _ (find : List ℕ → Option ℕ) (text t : List ℕ) where
   unfolding closed bytes_at
   closed_is s l i = elim (cases_Bool (eqb (get_or s i 0) 10)) [ inl h ↦ rw h refl | inr h ↦ rw h refl ]
 
-  pub closed_same : (l : Line) (i : ℕ) → Same-read text t next_of i (closed text l i) (closed t l i)
+  pub closed_same : (l : Line) (i : ℕ) → SameRead text t next_of i (closed text l i) (closed t l i)
   closed_same l i =
       rw (closed_is text l i, closed_is t l i)
       (same_cond text t next_of i _ _ (Ok (record { line = l; next = i + 1 })) (Err (Shape i)) (Ok (record { line = l; next = i + 1 })) (Err (Shape i)) (λ a. ap (λ m. eqb m 10) (a.bytes i (omega arith)))
       (same_end text t next_of i (record { line = l; next = i + 1 }) (omega arith)) (same_shape text t next_of i i (omega arith)))
 
-  pub with-same : (l : Line) (i : ℕ) → Same-read text t next_of i (with-expr find text l i) (with-expr find t l i)
-  unfolding with-expr
+  pub with-same : (l : Line) (i : ℕ) → SameRead text t next_of i (with_expr_spec find text l i) (with_expr_spec find t l i)
+  unfolding with_expr_spec
   with-same l i = same_then text t itself next_of i (expr_at find text 1024 i) (expr_at find t 1024 i) _ _ (expr-same text t find 1024 i) (λ j. closed_same l j)
 
-  with-ok : (l : Line) (j : ℕ) (x : Lined) → with-expr find text l j ≡ Ok x → Reach find text j (next_of x)
-  unfolding with-expr
+  with-ok : (l : Line) (j : ℕ) (x : Lined) → with_expr_spec find text l j ≡ Ok x → Reach find text j (next_of x)
+  unfolding with_expr_spec
   with-ok l j x e =
       let p = then-parts (expr_at find text 1024 j) _ x e in
       reach-more find text j p.0 (next_of x) ((closed_same l p.0).ok x p.2).0 (reach find text 1024 j p.0 (inl p.1))
 
-  with-err : (l : Line) (j q : ℕ) → with-expr find text l j ≡ Err (Shape q) → Reach find text j q
-  unfolding with-expr
+  with-err : (l : Line) (j q : ℕ) → with_expr_spec find text l j ≡ Err (Shape q) → Reach find text j q
+  unfolding with_expr_spec
   with-err l j q e =
       elim (then-fails (expr_at find text 1024 j) _ (Shape q) e) [
         | inl p ↦ reach find text 1024 j q (inr p)
@@ -172,25 +172,25 @@ module _ (find : List ℕ → Option ℕ) (text t : List ℕ) where
 
   -- `cell` or `field`, and then the byte m
   kinded : Bool → ℕ → List ℕ → ℕ → Result Lined Refusal
-  kinded f k s m = and_then (bytes_at s (codes " ") m) (λ e. with-expr find s (line.Read f k e) e)
+  kinded f k s m = and_then (bytes_at s (codes " ") m) (λ e. with_expr_spec find s (line.Read f k e) e)
 
-  kinded-same : (f : Bool) (k m : ℕ) → Same-read text t next_of m (kinded f k text m) (kinded f k t m)
+  kinded-same : (f : Bool) (k m : ℕ) → SameRead text t next_of m (kinded f k text m) (kinded f k t m)
   unfolding kinded
   kinded-same f k m = same_then text t itself next_of m (bytes_at text (codes " ") m) (bytes_at t (codes " ") m) _ _ (bytes_same text t (codes " ") m) (λ e. with-same (line.Read f k e) e)
 
   read_same : (f : Bool) (k j : ℕ) → cell_kind_spec (key_at text j) ≡ Some f → Agree (j + run_of word_byte (drop j text)) text t
-      → assign-by find t k j (cell_kind_spec (key_at t j)) ≡ kinded f k t (j + run_of word_byte (drop j text))
+      → assign_by find t k j (cell_kind_spec (key_at t j)) ≡ kinded f k t (j + run_of word_byte (drop j text))
   unfolding kinded
   read_same f k j h a =
       let p = run_at text t word_byte refl j (j + run_of word_byte (drop j text)) (omega arith) a in
       let c : cell_kind_spec (key_at t j) ≡ Some f = ap (λ u. cell_kind_spec (key_of u)) p.1 ∙ h in
       rw (c, p.0) refl
 
-  read_is : (f : Bool) (k j : ℕ) → assign-by find text k j (Some f) ≡ kinded f k text (j + run_of word_byte (drop j text))
+  read_is : (f : Bool) (k j : ℕ) → assign_by find text k j (Some f) ≡ kinded f k text (j + run_of word_byte (drop j text))
   unfolding kinded
   read_is f k j = refl
 
-  by-same : (k j : ℕ) (c : Option Bool) → cell_kind_spec (key_at text j) ≡ c → Same-read text t next_of j (assign-by find text k j c) (assign-by find t k j (cell_kind_spec (key_at t j)))
+  by-same : (k j : ℕ) (c : Option Bool) → cell_kind_spec (key_at text j) ≡ c → SameRead text t next_of j (assign_by find text k j c) (assign_by find t k j (cell_kind_spec (key_at t j)))
   by-same k j None h =
       record {
         ok = λ x e. let q = (with-same (line.Put k j) j).ok x e in (q.0, λ a. rw (ap cell_kind_spec (key-same find text t j (next_of x) (with-ok (line.Put k j) j x e) a) ∙ h) (q.1 a));
@@ -205,22 +205,22 @@ module _ (find : List ℕ → Option ℕ) (text t : List ℕ) where
             (l, λ a. read_same f k j h (agree_less m n text t q.0 a) ∙ q.1 a);
       }
 
-  assign-same : (k i : ℕ) → Same-read text t next_of i (assign-at find text k i) (assign-at find t k i)
-  unfolding assign-at
+  assign-same : (k i : ℕ) → SameRead text t next_of i (assign_at find text k i) (assign_at find t k i)
+  unfolding assign_at
   assign-same k i = same_then text t itself next_of i (bytes_at text (codes " = ") i) (bytes_at t (codes " = ") i) _ _ (bytes_same text t (codes " = ") i) (λ j. by-same k j (cell_kind_spec (key_at text j)) refl)
 
-  write_same : (f : Bool) (i : ℕ) → Same-read text t next_of i (write-at find text f i) (write-at find t f i)
-  unfolding write-at
+  write_same : (f : Bool) (i : ℕ) → SameRead text t next_of i (write_at find text f i) (write_at find t f i)
+  unfolding write_at
   write_same f i =
       same_then text t itself next_of i (bytes_at text (codes " ") i) (bytes_at t (codes " ") i) _ _ (bytes_same text t (codes " ") i)
       (λ p. same_then text t itself next_of p (expr_at find text 1024 p) (expr_at find t 1024 p) _ _ (expr-same text t find 1024 p)
       (λ j. same_then text t itself next_of j (bytes_at text (codes " = ") j) (bytes_at t (codes " = ") j) _ _ (bytes_same text t (codes " = ") j) (λ v. with-same (line.Write f p v) v)))
 
   head-same : (l : ℕ → Line) (i : ℕ)
-      → Same-read text t next_of i (and_then (bytes_at text (codes " ") i) (λ e. with-expr find text (l e) e)) (and_then (bytes_at t (codes " ") i) (λ e. with-expr find t (l e) e))
+      → SameRead text t next_of i (and_then (bytes_at text (codes " ") i) (λ e. with_expr_spec find text (l e) e)) (and_then (bytes_at t (codes " ") i) (λ e. with_expr_spec find t (l e) e))
   head-same l i = same_then text t itself next_of i (bytes_at text (codes " ") i) (bytes_at t (codes " ") i) _ _ (bytes_same text t (codes " ") i) (λ e. with-same (l e) e)
 
-  keyed-same : (k : Keyword) (i : ℕ) → Same-read text t next_of i (by_key find text k i) (by_key find t k i)
+  keyed-same : (k : Keyword) (i : ℕ) → SameRead text t next_of i (by_key find text k i) (by_key find t k i)
   unfolding by_key
   keyed-same kw.Own i = same_shape text t next_of i i (omega arith)
   keyed-same kw.Cells i = same_shape text t next_of i i (omega arith)
@@ -235,15 +235,15 @@ module _ (find : List ℕ → Option ℕ) (text t : List ℕ) where
   keyed-same kw.Group i = same_shape text t next_of i i (omega arith)
   keyed-same kw.Lanes i = same_shape text t next_of i i (omega arith)
 
-  by-word-same : (w : Word) (i : ℕ) → Same-read text t next_of i (by_word find text w i) (by_word find t w i)
+  by-word-same : (w : Word) (i : ℕ) → SameRead text t next_of i (by_word find text w i) (by_word find t w i)
   by-word-same (word.Own k) i = assign-same k i
   by-word-same (word.Key k) i = keyed-same k i
 
-  pub bare-same : (i : ℕ) → Same-read text t next_of i (bare-at find text i) (bare-at find t i)
-  unfolding bare-at
+  pub bare-same : (i : ℕ) → SameRead text t next_of i (bare_at find text i) (bare_at find t i)
+  unfolding bare_at
   bare-same i = same_then text t token_end next_of i (word_at find text i) (word_at find t i) _ _ (word_same text t find i) (λ x. by-word-same x.word x.end)
 
-  within_same : (i : ℕ) (r s : Result Lined Refusal) → Same-read text t next_of i r s → Same-read text t next_of i (within_line_spec i r) (within_line_spec i s)
+  within_same : (i : ℕ) (r s : Result Lined Refusal) → SameRead text t next_of i r s → SameRead text t next_of i (within_line_spec i r) (within_line_spec i s)
   within_same i (Ok l) s a =
       record {
         ok = λ x e. elim (cond_cases (ltb 1025 (l.next - i)) _ _ (Ok x) e) [
@@ -263,33 +263,33 @@ module _ (find : List ℕ → Option ℕ) (text t : List ℕ) where
       }
 
   -- the line at a byte
-  pub line_same : (i : ℕ) → Same-read text t next_of i (line_at find text i) (line_at find t i)
+  pub line_same : (i : ℕ) → SameRead text t next_of i (line_at find text i) (line_at find t i)
   unfolding line_at
-  line_same i = within_same i (bare-at find text i) (bare-at find t i) (bare-same i)
+  line_same i = within_same i (bare_at find text i) (bare_at find t i) (bare-same i)
 
 -- the first word of a line is seen to its end, or to its ninth byte
 module _ (find : List ℕ → Option ℕ) (text : List ℕ) where
   token-at : (i q : ℕ) (x : Token) → word_at find text i ≡ Ok x → x.end ≤ q → Reach find text i q
   token-at i q x e h = inl (omega (arith, (word_sound find text i x e).end_is, run_length word_byte text i))
 
-  bare-reach-ok : (i : ℕ) (x : Lined) → bare-at find text i ≡ Ok x → Reach find text i (next_of x)
-  unfolding bare-at
+  bare-reach-ok : (i : ℕ) (x : Lined) → bare_at find text i ≡ Ok x → Reach find text i (next_of x)
+  unfolding bare_at
   bare-reach-ok i x e =
       let p = then-parts (word_at find text i) _ x e in
       token-at i (next_of x) p.0 p.1 ((by-word-same find text text p.0.word p.0.end).ok x p.2).0
 
-  bare-reach-err : (i q : ℕ) → bare-at find text i ≡ Err (Shape q) → Reach find text i q
-  unfolding bare-at
+  bare-reach-err : (i q : ℕ) → bare_at find text i ≡ Err (Shape q) → Reach find text i q
+  unfolding bare_at
   bare-reach-err i q e =
       elim (then-fails (word_at find text i) _ (Shape q) e) [
         | inl p ↦ first_reach find text i q p
         | inr p ↦ token-at i q p.0 p.1 ((by-word-same find text text p.0.word p.0.end).err q p.2).0
       ]
 
-  pub within-ok : (i : ℕ) (r : Result Lined Refusal) (x : Lined) → within_line_spec i r ≡ Ok x → r ≡ Ok x
-  within-ok i (Ok l) x e =
+  pub within_ok : (i : ℕ) (r : Result Lined Refusal) (x : Lined) → within_line_spec i r ≡ Ok x → r ≡ Ok x
+  within_ok i (Ok l) x e =
       elim (cond_cases (ltb 1025 (l.next - i)) _ _ (Ok x) e) [ inl p ↦ absurd (not_err (Long (i + 1024)) x p.1) | inr p ↦ p.1 ]
-  within-ok i (Err d) x e =
+  within_ok i (Err d) x e =
       elim (cond_cases (ltb 1024 (place_of d - i)) _ _ (Ok x) e) [ inl p ↦ absurd (not_err (Long (i + 1024)) x p.1) | inr p ↦ p.1 ]
 
   pub within-err : (i q : ℕ) (r : Result Lined Refusal) → within_line_spec i r ≡ Err (Shape q) → r ≡ Err (Shape q)
@@ -302,8 +302,8 @@ module _ (find : List ℕ → Option ℕ) (text : List ℕ) where
 
   pub line-reach-ok : (i : ℕ) (x : Lined) → line_at find text i ≡ Ok x → Reach find text i (next_of x)
   unfolding line_at
-  line-reach-ok i x e = bare-reach-ok i x (within-ok i (bare-at find text i) x e)
+  line-reach-ok i x e = bare-reach-ok i x (within_ok i (bare_at find text i) x e)
 
   pub line-reach-err : (i q : ℕ) → line_at find text i ≡ Err (Shape q) → Reach find text i q
   unfolding line_at
-  line-reach-err i q e = bare-reach-err i q (within-err i q (bare-at find text i) e)
+  line-reach-err i q e = bare-reach-err i q (within-err i q (bare_at find text i) e)

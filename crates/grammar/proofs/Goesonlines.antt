@@ -1,12 +1,12 @@
 -- What has the shape of a line is never refused for its shape, and is read as a line of its kind, to its end.
 use Rattle.std.proofs.Common.{◌≡◌, ℕ, zero, suc, ◌+◌, ◌-◌, ◌<◌, ◌≤◌, Bool, true, false, cond, ltb, List, [], ◌∷◌, ◌++◌, length, get_or, take, drop, Some, None, Ok, Err, codes, Option, Result, sym, refl, ap, ◌∙◌, arith}
 use Rattle.lanes.specs.Syntax.{Expr}
-use Rattle.grammar.specs.Spelling.{letter, word_byte, each_byte, IsName, Spells-expr, AnyName}
+use Rattle.grammar.specs.Spelling.{letter, word_byte, each_byte, IsName, SpellsExpr, AnyName}
 use Rattle.grammar.specs.Stands.{Apart}
 use Rattle.grammar.specs.Refusals.{place_of}
 use Rattle.grammar.specs.Runs.{run_of, written}
 use Rattle.grammar.specs.Walk.{key_of, key_at, word_at, some_token, bytes_at, expr_at, and_then}
-use Rattle.grammar.specs.WalkLine.{cell_kind_spec, with-expr, closed, assign-at, assign-by, write-at, by_key, by_word, bare-at, within_line_spec, line_at}
+use Rattle.grammar.specs.WalkLine.{cell_kind_spec, with_expr_spec, closed, assign_at, assign_by, write_at, by_key, by_word, bare_at, within_line_spec, line_at}
 use Rattle.grammar.specs.declared.refusals.Refusal.{Refusal}
 use Rattle.grammar.specs.declared.refusals.Refusal.TheVariants.{Shape, Unknown, Long}
 use Rattle.grammar.specs.declared.keywords.Keyword.{Keyword}
@@ -42,7 +42,7 @@ abbrev pub OfKind : Kind → ℕ → Lined → Type 0
 OfKind c n l = (kind_of_spec l.line ≡ c) × (l.next ≡ n)
 
 abbrev pub Shaped : List ℕ → Type 0
-Shaped u = (e : Expr) × Spells-expr AnyName e u
+Shaped u = (e : Expr) × SpellsExpr AnyName e u
 
 any-named : (k : ℕ) (u : List ℕ) → AnyName k u → IsName u
 any-named k u h = h
@@ -52,21 +52,21 @@ module _ (find : List ℕ → Option ℕ) (text : List ℕ) where
   unfolding closed each_byte
   closed-right l i z e = rw (bytes-done text i (codes "\n") z refl e) (good-ok _ (OfKind (kind_of_spec l) (i + 1)) (refl, refl))
 
-  with-right : (l : Line) (i : ℕ) (u z : List ℕ) → Shaped u → drop i text ≡ u ++ (10 ∷ z) → Good (with-expr find text l i) (OfKind (kind_of_spec l) ((i + length u) + 1))
-  unfolding with-expr
+  with-right : (l : Line) (i : ℕ) (u z : List ℕ) → Shaped u → drop i text ≡ u ++ (10 ∷ z) → Good (with_expr_spec find text l i) (OfKind (kind_of_spec l) ((i + length u) + 1))
+  unfolding with_expr_spec
   with-right l i u z s e =
       good-then (expr_at find text 1024 i) _ (At find text (i + length u)) (OfKind (kind_of_spec l) ((i + length u) + 1)) (expr-right find text s.0 1024 u s.1 i (10 ∷ z) e refl)
       (λ j ej. rw ej (closed-right l (i + length u) z (past text i u (10 ∷ z) e)))
 
-  assign-right : (k i : ℕ) (u z : List ℕ) → Shaped u → drop i text ≡ codes " = " ++ (u ++ (10 ∷ z)) → Good (assign-at find text k i) (OfKind alone (((i + 3) + length u) + 1))
-  unfolding assign-at each_byte
+  assign-right : (k i : ℕ) (u z : List ℕ) → Shaped u → drop i text ≡ codes " = " ++ (u ++ (10 ∷ z)) → Good (assign_at find text k i) (OfKind alone (((i + 3) + length u) + 1))
+  unfolding assign_at each_byte
   assign-right k i u z s e =
       let x : drop (i + 3) text ≡ u ++ (10 ∷ z) = past text i (codes " = ") _ e in
       rw (bytes-done text i (codes " = ") _ refl e, no_cell text (i + 3) (10 ∷ z) refl AnyName any-named s.0 u s.1 x) (with-right (Put k (i + 3)) (i + 3) u z s x)
 
   read_right : (f : Bool) (w : List ℕ) (k i : ℕ) (u z : List ℕ) → cell_kind_spec (key_of w) ≡ Some f → each_byte word_byte w ≡ true → Shaped u
-      → drop i text ≡ codes " = " ++ (w ++ (32 ∷ (u ++ (10 ∷ z)))) → Good (assign-at find text k i) (OfKind alone (((((i + 3) + length w) + 1) + length u) + 1))
-  unfolding assign-at each_byte
+      → drop i text ≡ codes " = " ++ (w ++ (32 ∷ (u ++ (10 ∷ z)))) → Good (assign_at find text k i) (OfKind alone (((((i + 3) + length w) + 1) + length u) + 1))
+  unfolding assign_at each_byte
   read_right f w k i u z c b s e =
       let x : drop (i + 3) text ≡ w ++ (32 ∷ (u ++ (10 ∷ z))) = past text i (codes " = ") _ e in
       let y : drop ((i + 3) + length w) text ≡ 32 ∷ (u ++ (10 ∷ z)) = past text (i + 3) w _ x in
@@ -76,8 +76,8 @@ module _ (find : List ℕ → Option ℕ) (text : List ℕ) where
       (with-right (Read f k (((i + 3) + length w) + 1)) (((i + 3) + length w) + 1) u z s v)
 
   write-right : (f : Bool) (i : ℕ) (u w z : List ℕ) → Shaped u → Shaped w → drop i text ≡ 32 ∷ (u ++ (codes " = " ++ (w ++ (10 ∷ z))))
-      → Good (write-at find text f i) (OfKind alone (((((i + 1) + length u) + 3) + length w) + 1))
-  unfolding write-at each_byte
+      → Good (write_at find text f i) (OfKind alone (((((i + 1) + length u) + 3) + length w) + 1))
+  unfolding write_at each_byte
   write-right f i u w z s t e =
       let x : drop (i + 1) text ≡ u ++ (codes " = " ++ (w ++ (10 ∷ z))) = past-byte text i 32 _ e in
       let y : drop ((i + 1) + length u) text ≡ codes " = " ++ (w ++ (10 ∷ z)) = past text (i + 1) u _ x in
@@ -87,31 +87,31 @@ module _ (find : List ℕ → Option ℕ) (text : List ℕ) where
       (λ j ej. rw (ej, bytes-done text ((i + 1) + length u) (codes " = ") _ refl y) (with-right (Write f (i + 1) (((i + 1) + length u) + 3)) (((i + 1) + length u) + 3) w z t v)))
 
   head-right : (l : ℕ → Line) (c : Kind) (i : ℕ) (u z : List ℕ) → ((m : ℕ) → kind_of_spec (l m) ≡ c) → Shaped u → drop i text ≡ 32 ∷ (u ++ (10 ∷ z))
-      → Good (and_then (bytes_at text (codes " ") i) (λ e. with-expr find text (l e) e)) (OfKind c (((i + 1) + length u) + 1))
+      → Good (and_then (bytes_at text (codes " ") i) (λ e. with_expr_spec find text (l e) e)) (OfKind c (((i + 1) + length u) + 1))
   unfolding each_byte
   head-right l c i u z k s e = rw (bytes-done text i (32 ∷ []) _ refl e, sym (k (i + 1))) (with-right (l (i + 1)) (i + 1) u z s (past-byte text i 32 _ e))
 
   -- the first word
-  name_by : (o : Option ℕ) (i j : ℕ) (P : Lined → Type 0) → ((k : ℕ) → Good (assign-at find text k j) P) → Good (and_then (some_token None o i j) (λ t. by_word find text t.word t.end)) P
+  name_by : (o : Option ℕ) (i j : ℕ) (P : Lined → Type 0) → ((k : ℕ) → Good (assign_at find text k j) P) → Good (and_then (some_token None o i j) (λ t. by_word find text t.word t.end)) P
   name_by None i j P h = good-other (Unknown i) P (no-unknown i)
   name_by (Some k) i j P h = h k
 
-  name-first : (i : ℕ) (a z : List ℕ) (P : Lined → Type 0) → IsName a → Apart z → drop i text ≡ a ++ z → ((k : ℕ) → Good (assign-at find text k (i + length a)) P) → Good (bare-at find text i) P
-  unfolding bare-at
+  name-first : (i : ℕ) (a z : List ℕ) (P : Lined → Type 0) → IsName a → Apart z → drop i text ≡ a ++ z → ((k : ℕ) → Good (assign_at find text k (i + length a)) P) → Good (bare_at find text i) P
+  unfolding bare_at
   name-first i a z P h p e g = rw (word-done find text i a z h.some h.begins h.bytes h.short e p None (find a) (key-free a h.free) refl) (name_by (find a) i (i + length a) P g)
 
   key-first : (k : Keyword) (i : ℕ) (z : List ℕ) (P : Lined → Type 0) → 1 ≤ length (written k) → letter (get_or (written k) 0 0) ≡ true → each_byte word_byte (written k) ≡ true → length (written k) ≤ 8 → Apart z
-      → drop i text ≡ written k ++ z → Good (by_key find text k (i + length (written k))) P → Good (bare-at find text i) P
-  unfolding bare-at
+      → drop i text ≡ written k ++ z → Good (by_key find text k (i + length (written k))) P → Good (bare_at find text i) P
+  unfolding bare_at
   key-first k i z P s b y l p e g = rw (word-done find text i (written k) z s b y l e p (Some k) (find (written k)) (key-written k) refl) g
 
   good-within : (i : ℕ) (r : Result Lined Refusal) (P : Lined → Type 0) → Good r P → Good (within_line_spec i r) P
   good-within i (Ok l) P g = good-cond (ltb 1025 (l.next - i)) (Err (Long (i + 1024))) (Ok l) P (good-other (Long (i + 1024)) P (no-long (i + 1024))) g
   good-within i (Err d) P g = good-cond (ltb 1024 (place_of d - i)) (Err (Long (i + 1024))) (Err d) P (good-other (Long (i + 1024)) P (no-long (i + 1024))) g
 
-  to-line : (i : ℕ) (P : Lined → Type 0) → Good (bare-at find text i) P → Good (line_at find text i) P
+  to-line : (i : ℕ) (P : Lined → Type 0) → Good (bare_at find text i) P → Good (line_at find text i) P
   unfolding line_at
-  to-line i P g = good-within i (bare-at find text i) P g
+  to-line i P g = good-within i (bare_at find text i) P g
 
   -- each kind of line, with what is behind it
   pub put-line-right : (i : ℕ) (a u z : List ℕ) → IsName a → Shaped u → drop i text ≡ a ++ (codes " = " ++ (u ++ (10 ∷ z))) → Good (line_at find text i) (OfKind alone ((((i + length a) + 3) + length u) + 1))

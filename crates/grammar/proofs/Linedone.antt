@@ -1,15 +1,15 @@
 -- A line that stands at a byte is read there, as that line.
 use Rattle.std.proofs.Common.{◌≡◌, ℕ, zero, suc, ◌+◌, ◌-◌, ◌*◌, ◌<◌, ◌≤◌, max, Bool, true, false, cond, not, ◌&&◌, ◌||◌, eqb, ltb, List, [], ◌∷◌, ◌++◌, length, get_or, take, drop, Some, None, Ok, Err, codes, Option, Result, sym, refl, ap, ◌∙◌, arith}
-use Rattle.std.proofs.lemmas.List.{append_assoc, length-append}
+use Rattle.std.proofs.lemmas.List.{append_assoc, length_append}
 use Rattle.std.proofs.lemmas.Bool.{and_parts, le-ltb, ne_eqb, eqb-true}
 use Rattle.std.proofs.lemmas.Bool.Decides.{nat_tests}
 use Rattle.lanes.specs.Syntax.{Expr, fixed, var, lane, group, lanes, plus, minus, times, over, rest_of, less, same}
-use Rattle.grammar.specs.Spelling.{letter, digit, word_byte, each_byte, same_bytes, IsName, IsNumber, infix_of, Spells-expr}
+use Rattle.grammar.specs.Spelling.{letter, digit, word_byte, each_byte, same_bytes, IsName, IsNumber, infix_of, SpellsExpr}
 use Rattle.grammar.specs.Stands.{Apart}
 use Rattle.grammar.specs.Runs.{run_of, written}
 use Rattle.grammar.specs.Walk.{key_of, key_at, word_at, word_part, some_token, bytes_at, expr_at, and_then}
-use Rattle.grammar.specs.WalkLine.{cell_kind_spec, with-expr, closed, assign-at, assign-by, write-at, by_key, by_word, bare-at, within_line_spec, line_at}
-use Rattle.grammar.specs.Lines.{Some-expr, Line-here}
+use Rattle.grammar.specs.WalkLine.{cell_kind_spec, with_expr_spec, closed, assign_at, assign_by, write_at, by_key, by_word, bare_at, within_line_spec, line_at}
+use Rattle.grammar.specs.Lines.{SomeExpr, LineHere}
 use Rattle.grammar.specs.declared.keywords.Keyword.{Keyword}
 use Rattle.grammar.specs.declared.keywords.Keyword.TheVariants as kw
 use Rattle.grammar.specs.declared.lines.Line.{Line}
@@ -19,15 +19,15 @@ use Rattle.grammar.proofs.Runs.{run-stop}
 use Rattle.grammar.proofs.Walks.{key-written}
 use Rattle.grammar.proofs.Scanned.{byte_at}
 use Rattle.grammar.proofs.Complete.{first_byte, past, past-byte, bytes-done, run-here, part-here, key-free, byte_of, word-done, key-done}
-use Rattle.grammar.proofs.Spelled.{brackets, Reads-expr, expr-done}
+use Rattle.grammar.proofs.Spelled.{brackets, ReadsExpr, expr-done}
 
 -- fewer brackets than bytes
 module _ (N : ℕ → List ℕ → Type 0) where
   infix-long : (u v : List ℕ) (op m n : ℕ) → m ≤ length u → n ≤ length v → suc (max m n) ≤ length (infix_of u op v)
-  infix-long u v op m n h k = omega (arith, length-append u (32 ∷ op ∷ 32 ∷ (v ++ (41 ∷ []))), length-append v (41 ∷ []))
+  infix-long u v op m n h k = omega (arith, length_append u (32 ∷ op ∷ 32 ∷ (v ++ (41 ∷ []))), length_append v (41 ∷ []))
 
-  pub brackets-few : (e : Expr) (u : List ℕ) → Spells-expr N e u → brackets e ≤ length u
-  unfolding Spells-expr brackets
+  pub brackets-few : (e : Expr) (u : List ℕ) → SpellsExpr N e u → brackets e ≤ length u
+  unfolding SpellsExpr brackets
   brackets-few (fixed a) u s = omega arith
   brackets-few (var k) u s = omega arith
   brackets-few lane u s = omega arith
@@ -84,8 +84,8 @@ module _ (text : List ℕ) (i : ℕ) (z : List ℕ) (a : Apart z) (N : ℕ → L
       let r : run_of word_byte (drop i text) ≡ 0 = ap (λ w. run_of word_byte w) x ∙ run-stop word_byte 40 _ refl in
       ap cell_kind_spec (ap key_of (rw r refl) ∙ key-nothing)
 
-  pub no_cell : (e : Expr) (u : List ℕ) → Spells-expr N e u → drop i text ≡ u ++ z → cell_kind_spec (key_at text i) ≡ None
-  unfolding Spells-expr each_byte
+  pub no_cell : (e : Expr) (u : List ℕ) → SpellsExpr N e u → drop i text ≡ u ++ z → cell_kind_spec (key_at text i) ≡ None
+  unfolding SpellsExpr each_byte
   no_cell (fixed n) u s q = ap cell_kind_spec (ap key_of (part-here word_byte text i u z (digits-word u s.bytes) a q) ∙ key-number n u s)
   no_cell (var k) u s q = let h = named k u s in ap cell_kind_spec (ap key_of (part-here word_byte text i u z h.bytes a q) ∙ key-free u h.free)
   no_cell lane u s q = ap cell_kind_spec (ap key_of (part-here word_byte text i (codes "lane") z refl a (rw s at q)) ∙ key-written kw.Lane)

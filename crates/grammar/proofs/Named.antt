@@ -74,26 +74,26 @@ module _ (ns : List (List ℕ)) (text u : List ℕ) (i k : ℕ) (n : NamesIn ns 
       elim (cases_lt k (length ns)) [ inl p ↦ absurd (h (first_byte 32 _ (space p))) | inr p ↦ w.passed j (omega arith) hj ]
 
   module _ (e : ℕ) (we : WordEnd text (i + 1) e) (h : k < length ns) where
-    from-name : drop (i + 1) text ≡ get_or ns k [] ++ (spaced (drop (k + 1) ns) ++ (10 ∷ w.rest))
-    from-name = sym (drop-drop 1 i text) ∙ ap (λ t. drop 1 t) (space h)
+    from_name : drop (i + 1) text ≡ get_or ns k [] ++ (spaced (drop (k + 1) ns) ++ (10 ∷ w.rest))
+    from_name = sym (drop-drop 1 i text) ∙ ap (λ t. drop 1 t) (space h)
 
     end_is : e ≡ (i + 1) + length (get_or ns k [])
-    end_is = word-ends text (i + 1) e (get_or ns k []) _ we from-name (n.names k h).bytes (apart-spaced (drop (k + 1) ns) w.rest)
+    end_is = word-ends text (i + 1) e (get_or ns k []) _ we from_name (n.names k h).bytes (apart-spaced (drop (k + 1) ns) w.rest)
 
-    next-there : Next ns text u i k e
-    next-there =
+    next_there : Next ns text u i k e
+    next_there =
         record {
           more = h;
-          name = ap (λ t. take (e - (i + 1)) t) from-name ∙ take_at (get_or ns k []) _ (e - (i + 1)) (omega (arith, end_is));
+          name = ap (λ t. take (e - (i + 1)) t) from_name ∙ take_at (get_or ns k []) _ (e - (i + 1)) (omega (arith, end_is));
           on = λ ne. record {
             rest = w.rest;
-            left = ap (λ m. drop m text) end_is ∙ sym (drop-drop (length (get_or ns k [])) (i + 1) text) ∙ ap (λ t. drop (length (get_or ns k [])) t) from-name ∙ drop_at (get_or ns k []) _ _ refl;
+            left = ap (λ m. drop m text) end_is ∙ sym (drop-drop (length (get_or ns k [])) (i + 1) text) ∙ ap (λ t. drop (length (get_or ns k [])) t) from_name ∙ drop_at (get_or ns k []) _ _ refl;
             passed = λ j hj hn. elim (cases_eq j k) [ inl p ↦ (λ q. ne (ap (λ m. get_or ns m []) (sym p) ∙ q)) | inr p ↦ w.passed j (omega arith) hn ];
           };
         }
 
   pub next : (e : ℕ) → WordEnd text (i + 1) e → get_or text i 0 ≡ 32 → Next ns text u i k e
-  next e we h = elim (cases_lt k (length ns)) [ inl p ↦ next-there e we p | inr p ↦ absurd (omega (arith, h, ends p)) ]
+  next e we h = elim (cases_lt k (length ns)) [ inl p ↦ next_there e we p | inr p ↦ absurd (omega (arith, h, ends p)) ]
 
   pub found : (e : ℕ) → Next ns text u i k e → between (i + 1) e text ≡ u → FirstAt ns u k
   found e x q = record { there = x.more; is = sym x.name ∙ q; first = λ j h. w.passed j h (omega (arith, x.more)) }

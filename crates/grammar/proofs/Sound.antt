@@ -5,7 +5,7 @@ use Rattle.std.proofs.lemmas.Bool.{and_parts, or_cases, cases_Bool, cases_lt, lt
 use Rattle.std.proofs.lemmas.Bool.Decides.{nat_tests}
 use Rattle.lanes.specs.Syntax.{Expr, fixed, var, lane, group, lanes, plus, minus, times, over, rest_of, less, same}
 use Rattle.lanes.specs.Told.{ExprFits}
-use Rattle.grammar.specs.Spelling.{letter, digit, word_byte, each_byte, same_bytes, decimal, IsNumber, infix_of, Spells-expr}
+use Rattle.grammar.specs.Spelling.{letter, digit, word_byte, each_byte, same_bytes, decimal, IsNumber, infix_of, SpellsExpr}
 use Rattle.grammar.specs.Stands.{Apart}
 use Rattle.grammar.specs.Runs.{run_of, written}
 use Rattle.grammar.specs.Walk.{key_of, key_at, word_part, word_at, word_atom, own_token, some_token, bytes_at, atom_at, operator_at, is_operator_spec, is_atom_spec, expr_at, and_then, number_part}

@@ -4,10 +4,10 @@ use Rattle.std.proofs.lemmas.List.{append_assoc}
 use Rattle.std.proofs.lemmas.Bool.{or_cases, ltb-true, eqb-true}
 use Rattle.lanes.specs.Syntax.{Expr, fixed, var, lane, group, lanes, plus, minus, times, over, rest_of, less, same}
 use Rattle.lanes.specs.Told.{ExprFits}
-use Rattle.grammar.specs.Spelling.{letter, digit, word_byte, decimal, IsNumber, infix_of, Spells-expr}
+use Rattle.grammar.specs.Spelling.{letter, digit, word_byte, decimal, IsNumber, infix_of, SpellsExpr}
 use Rattle.grammar.specs.Runs.{run_of, written}
 use Rattle.grammar.specs.Walk.{key_of, word_part, word_at, word_atom, bytes_at, atom_at, operator_at, is_operator_spec, is_atom_spec, expr_at, and_then, number_part}
-use Rattle.grammar.specs.Lines.{Some-expr}
+use Rattle.grammar.specs.Lines.{SomeExpr}
 use Rattle.grammar.specs.declared.refusals.Refusal.{Refusal}
 use Rattle.grammar.specs.declared.refusals.Refusal.TheVariants.{Shape, Large, Long}
 use Rattle.grammar.specs.declared.keywords.Keyword.{Keyword}
@@ -33,15 +33,15 @@ operator-sound text i j e =
 
 module _ (find : List ℕ → Option ℕ) (text : List ℕ) (N : ℕ → List ℕ → Type 0) (o : ℕ) (finds : (k : ℕ) (u : List ℕ) → find u ≡ Some k → N k u × (k < o)) where
   -- an expression stands from i up to j
-  pub record Read-expr (i j : ℕ) : Type 0 where
+  pub record ReadExpr (i j : ℕ) : Type 0 where
     pub spelling : List ℕ
-    pub is : Some-expr N o text spelling
+    pub is : SomeExpr N o text spelling
     pub here : drop i text ≡ spelling ++ drop j text
     pub end_is : j ≡ i + length spelling
 
-  number-sound : (i : ℕ) → digit (get_or text i 0) ≡ true → ltb (number_part text i) 4294967296 ≡ true → Read-expr i (i + run_of digit (drop i text))
-  unfolding Spells-expr ExprFits
-  number-sound i d l =
+  number_sound : (i : ℕ) → digit (get_or text i 0) ≡ true → ltb (number_part text i) 4294967296 ≡ true → ReadExpr i (i + run_of digit (drop i text))
+  unfolding SpellsExpr ExprFits
+  number_sound i d l =
       let n : 1 ≤ run_of digit (drop i text) = run-some digit text i refl d in
       let m : length (take (run_of digit (drop i text)) (drop i text)) ≡ run_of digit (drop i text) = run_length digit text i in
       record {
@@ -51,43 +51,43 @@ module _ (find : List ℕ → Option ℕ) (text : List ℕ) (N : ℕ → List �
         end_is = omega arith;
       }
 
-  key-expr : (k : Keyword) (u : List ℕ) → is_atom_spec k ≡ true → u ≡ written k → Some-expr N o text u
-  unfolding Spells-expr ExprFits
-  key-expr Own u h e = let f : ◌≡◌ {A = Bool} false true = h in absurd (let z : ◌≡◌ {A = ℕ} 0 1 = cc in omega arith)
-  key-expr Cells u h e = let f : ◌≡◌ {A = Bool} false true = h in absurd (let z : ◌≡◌ {A = ℕ} 0 1 = cc in omega arith)
-  key-expr Cell u h e = let f : ◌≡◌ {A = Bool} false true = h in absurd (let z : ◌≡◌ {A = ℕ} 0 1 = cc in omega arith)
-  key-expr Field u h e = let f : ◌≡◌ {A = Bool} false true = h in absurd (let z : ◌≡◌ {A = ℕ} 0 1 = cc in omega arith)
-  key-expr Barrier u h e = let f : ◌≡◌ {A = Bool} false true = h in absurd (let z : ◌≡◌ {A = ℕ} 0 1 = cc in omega arith)
-  key-expr If u h e = let f : ◌≡◌ {A = Bool} false true = h in absurd (let z : ◌≡◌ {A = ℕ} 0 1 = cc in omega arith)
-  key-expr Else u h e = let f : ◌≡◌ {A = Bool} false true = h in absurd (let z : ◌≡◌ {A = ℕ} 0 1 = cc in omega arith)
-  key-expr End u h e = let f : ◌≡◌ {A = Bool} false true = h in absurd (let z : ◌≡◌ {A = ℕ} 0 1 = cc in omega arith)
-  key-expr While u h e = let f : ◌≡◌ {A = Bool} false true = h in absurd (let z : ◌≡◌ {A = ℕ} 0 1 = cc in omega arith)
-  key-expr Lane u h e = (lane, e, tt)
-  key-expr Group u h e = (group, e, tt)
-  key-expr Lanes u h e = (lanes, e, tt)
+  key_expr : (k : Keyword) (u : List ℕ) → is_atom_spec k ≡ true → u ≡ written k → SomeExpr N o text u
+  unfolding SpellsExpr ExprFits
+  key_expr Own u h e = let f : ◌≡◌ {A = Bool} false true = h in absurd (let z : ◌≡◌ {A = ℕ} 0 1 = cc in omega arith)
+  key_expr Cells u h e = let f : ◌≡◌ {A = Bool} false true = h in absurd (let z : ◌≡◌ {A = ℕ} 0 1 = cc in omega arith)
+  key_expr Cell u h e = let f : ◌≡◌ {A = Bool} false true = h in absurd (let z : ◌≡◌ {A = ℕ} 0 1 = cc in omega arith)
+  key_expr Field u h e = let f : ◌≡◌ {A = Bool} false true = h in absurd (let z : ◌≡◌ {A = ℕ} 0 1 = cc in omega arith)
+  key_expr Barrier u h e = let f : ◌≡◌ {A = Bool} false true = h in absurd (let z : ◌≡◌ {A = ℕ} 0 1 = cc in omega arith)
+  key_expr If u h e = let f : ◌≡◌ {A = Bool} false true = h in absurd (let z : ◌≡◌ {A = ℕ} 0 1 = cc in omega arith)
+  key_expr Else u h e = let f : ◌≡◌ {A = Bool} false true = h in absurd (let z : ◌≡◌ {A = ℕ} 0 1 = cc in omega arith)
+  key_expr End u h e = let f : ◌≡◌ {A = Bool} false true = h in absurd (let z : ◌≡◌ {A = ℕ} 0 1 = cc in omega arith)
+  key_expr While u h e = let f : ◌≡◌ {A = Bool} false true = h in absurd (let z : ◌≡◌ {A = ℕ} 0 1 = cc in omega arith)
+  key_expr Lane u h e = (lane, e, tt)
+  key_expr Group u h e = (group, e, tt)
+  key_expr Lanes u h e = (lanes, e, tt)
 
-  word-expr : (w : Word) (u : List ℕ) (j m : ℕ) → WordSays find u w → word_atom w j ≡ Ok m → (j ≡ m) × Some-expr N o text u
-  unfolding Spells-expr ExprFits
-  word-expr (word.Own k) u j m s e = (same_ok j m e, (var k, (finds k u s.1).0, (finds k u s.1).1))
-  word-expr (word.Key k) u j m s e =
-      elim (cond_cases (is_atom_spec k) _ _ (Ok m) e) [ inl p ↦ (same_ok j m p.1, key-expr k u p.0 s) | inr p ↦ absurd (not_err (Shape j) m p.1) ]
+  word_expr : (w : Word) (u : List ℕ) (j m : ℕ) → WordSays find u w → word_atom w j ≡ Ok m → (j ≡ m) × SomeExpr N o text u
+  unfolding SpellsExpr ExprFits
+  word_expr (word.Own k) u j m s e = (same_ok j m e, (var k, (finds k u s.1).0, (finds k u s.1).1))
+  word_expr (word.Key k) u j m s e =
+      elim (cond_cases (is_atom_spec k) _ _ (Ok m) e) [ inl p ↦ (same_ok j m p.1, key_expr k u p.0 s) | inr p ↦ absurd (not_err (Shape j) m p.1) ]
 
-  atom-sound : (i j : ℕ) → atom_at find text i ≡ Ok j → Read-expr i j
+  atom_sound : (i j : ℕ) → atom_at find text i ≡ Ok j → ReadExpr i j
   unfolding atom_at
-  atom-sound i j e =
+  atom_sound i j e =
       elim (cond_cases (digit (get_or text i 0)) _ _ (Ok j) e) [
         | inl p ↦ elim (cond_cases (ltb (number_part text i) 4294967296) _ _ (Ok j) p.1)
-            [ inl q ↦ let r : i + run_of digit (drop i text) ≡ j = same_ok _ j q.1 in rw r at (number-sound i p.0 q.0) | inr q ↦ absurd (not_err (Large i) j q.1) ]
+            [ inl q ↦ let r : i + run_of digit (drop i text) ≡ j = same_ok _ j q.1 in rw r at (number_sound i p.0 q.0) | inr q ↦ absurd (not_err (Large i) j q.1) ]
         | inr p ↦
             let t = then-parts (word_at find text i) _ j p.1 in
             let w = word_sound find text i t.0 t.1 in
-            let x = word-expr t.0.word (word_part text i) t.0.end j w.says t.2 in
+            let x = word_expr t.0.word (word_part text i) t.0.end j w.says t.2 in
             record { spelling = word_part text i; is = x.1; here = w.here ∙ ap (λ m. word_part text i ++ drop m text) x.0; end_is = sym x.0 ∙ w.end_is }
       ]
 
-  binary-expr : (op : ℕ) (u v : List ℕ) → is_operator_spec op ≡ true → Some-expr N o text u → Some-expr N o text v → Some-expr N o text (infix_of u op v)
-  unfolding Spells-expr ExprFits
-  binary-expr op u v h (e, s, f) (g, t, k) =
+  binary_expr : (op : ℕ) (u v : List ℕ) → is_operator_spec op ≡ true → SomeExpr N o text u → SomeExpr N o text v → SomeExpr N o text (infix_of u op v)
+  unfolding SpellsExpr ExprFits
+  binary_expr op u v h (e, s, f) (g, t, k) =
       elim (or_cases (eqb op 43) _ h) [
         | inl p ↦ (plus e g, (u, v, s, t, ap (λ m. infix_of u m v) (eqb-true op 43 p)), (f, k))
         | inr h1 ↦
@@ -114,9 +114,9 @@ module _ (find : List ℕ → Option ℕ) (text : List ℕ) (N : ℕ → List �
             ]
       ]
 
-  length-append : (u v : List ℕ) → length (u ++ v) ≡ length u + length v
-  length-append [] v = omega arith
-  length-append (b ∷ u) v = let h = length-append u v in omega (arith, h)
+  length_append : (u v : List ℕ) → length (u ++ v) ≡ length u + length v
+  length_append [] v = omega arith
+  length_append (b ∷ u) v = let h = length_append u v in omega (arith, h)
 
   three : (text : List ℕ) (i j op : ℕ) → operator_at text i ≡ Ok j → j ≡ i + 3
   unfolding operator_at
@@ -126,8 +126,8 @@ module _ (find : List ℕ → Option ℕ) (text : List ℕ) (N : ℕ → List �
       elim (cond_cases (is_operator_spec (get_or text p.0 0)) _ _ (Ok j) p.2)
       [ inl q ↦ omega (arith, s.1, (bytes-sound text (32 ∷ []) (p.0 + 1) j q.1).1) | inr q ↦ absurd (not_err (Shape p.0) j q.1) ]
 
-  open-sound : (i j k l m : ℕ) → get_or text i 0 ≡ 40 → Read-expr (i + 1) j → operator_at text j ≡ Ok k → Read-expr k l → bytes_at text (41 ∷ []) l ≡ Ok m → Read-expr i m
-  open-sound i j k l m b x p y q =
+  open_sound : (i j k l m : ℕ) → get_or text i 0 ≡ 40 → ReadExpr (i + 1) j → operator_at text j ≡ Ok k → ReadExpr k l → bytes_at text (41 ∷ []) l ≡ Ok m → ReadExpr i m
+  open_sound i j k l m b x p y q =
       let s = operator-sound text j k p in
       let t = bytes-sound text (41 ∷ []) l m q in
       let u : List ℕ = x.spelling in
@@ -137,20 +137,20 @@ module _ (find : List ℕ → Option ℕ) (text : List ℕ) (N : ℕ → List �
       peel text i n ∙ ap (λ c. c ∷ drop (i + 1) text) b ∙ ap (λ w. 40 ∷ w) (x.here ∙ ap (λ w. u ++ w) (s.2 ∙ ap (λ w. 32 ∷ s.0 ∷ 32 ∷ w) (y.here ∙ ap (λ w. v ++ w) t.0))) in
       record {
         spelling = infix_of u s.0 v;
-        is = binary-expr s.0 u v s.1 x.is y.is;
+        is = binary_expr s.0 u v s.1 x.is y.is;
         here = h ∙ ap (λ w. 40 ∷ w) (ap (λ w. u ++ (32 ∷ s.0 ∷ 32 ∷ w)) (sym (append_assoc v (41 ∷ []) (drop m text))) ∙ sym (append_assoc u (32 ∷ s.0 ∷ 32 ∷ (v ++ (41 ∷ []))) (drop m text)));
-        end_is = omega (arith, x.end_is, three text j k s.0 p, y.end_is, t.1, length-append u (32 ∷ s.0 ∷ 32 ∷ (v ++ (41 ∷ []))), length-append v (41 ∷ []));
+        end_is = omega (arith, x.end_is, three text j k s.0 p, y.end_is, t.1, length_append u (32 ∷ s.0 ∷ 32 ∷ (v ++ (41 ∷ []))), length_append v (41 ∷ []));
       }
 
-  pub expr-sound : (n i j : ℕ) → expr_at find text n i ≡ Ok j → Read-expr i j
+  pub expr_sound : (n i j : ℕ) → expr_at find text n i ≡ Ok j → ReadExpr i j
   unfolding expr_at
-  expr-sound zero i j e = elim (cond_cases (eqb (get_or text i 0) 40) _ _ (Ok j) e) [ inl p ↦ absurd (not_err (Long i) j p.1) | inr p ↦ atom-sound i j p.1 ]
-  expr-sound (suc n) i j e =
+  expr_sound zero i j e = elim (cond_cases (eqb (get_or text i 0) 40) _ _ (Ok j) e) [ inl p ↦ absurd (not_err (Long i) j p.1) | inr p ↦ atom_sound i j p.1 ]
+  expr_sound (suc n) i j e =
       elim (cond_cases (eqb (get_or text i 0) 40) _ _ (Ok j) e) [
         | inl p ↦
             let a = then-parts (expr_at find text n (i + 1)) _ j p.1 in
             let b = then-parts (operator_at text a.0) _ j a.2 in
             let c = then-parts (expr_at find text n b.0) _ j b.2 in
-            open-sound i a.0 b.0 c.0 j (eqb-true (get_or text i 0) 40 p.0) (expr-sound n (i + 1) a.0 a.1) b.1 (expr-sound n b.0 c.0 c.1) c.2
-        | inr p ↦ atom-sound i j p.1
+            open_sound i a.0 b.0 c.0 j (eqb-true (get_or text i 0) 40 p.0) (expr_sound n (i + 1) a.0 a.1) b.1 (expr_sound n b.0 c.0 c.1) c.2
+        | inr p ↦ atom_sound i j p.1
       ]

@@ -2,12 +2,12 @@
 use Rattle.std.proofs.Common.{◌≡◌, ℕ, zero, suc, ◌+◌, ◌-◌, ◌<◌, ◌≤◌, Bool, true, false, cond, ltb, ◌⊎◌, List, [], ◌∷◌, ◌++◌, length, get_or, take, drop, IfOk, Some, None, Ok, Err, codes, Option, Result, sym, refl, ap, ◌∙◌, inl, inr, arith}
 use Rattle.std.proofs.lemmas.Bool.{ltb-false}
 use Rattle.std.proofs.lemmas.List.{append_assoc}
-use Rattle.grammar.specs.Spelling.{word_byte, Spells-expr}
+use Rattle.grammar.specs.Spelling.{word_byte, SpellsExpr}
 use Rattle.grammar.specs.Refusals.{place_of}
 use Rattle.grammar.specs.Runs.{run_of, written}
 use Rattle.grammar.specs.Walk.{key_of, key_at, word_at, word_part, bytes_at, expr_at, and_then}
-use Rattle.grammar.specs.WalkLine.{cell_kind_spec, with-expr, closed, assign-at, assign-by, write-at, by_key, by_word, bare-at, within_line_spec, line_at}
-use Rattle.grammar.specs.Lines.{Some-expr, Line-here}
+use Rattle.grammar.specs.WalkLine.{cell_kind_spec, with_expr_spec, closed, assign_at, assign_by, write_at, by_key, by_word, bare_at, within_line_spec, line_at}
+use Rattle.grammar.specs.Lines.{SomeExpr, LineHere}
 use Rattle.grammar.specs.declared.refusals.Refusal.{Refusal}
 use Rattle.grammar.specs.declared.refusals.Refusal.TheVariants.{Shape, Long}
 use Rattle.grammar.specs.declared.keywords.Keyword.{Keyword}
@@ -18,7 +18,7 @@ use Rattle.grammar.specs.declared.lines.Line.{Line}
 use Rattle.grammar.specs.declared.lines.Line.TheVariants.{Put, Read, Write, Barrier, If, Else, End, While}
 use Rattle.grammar.specs.declared.lines.Lined.{Lined}
 use Rattle.grammar.proofs.Sound.{cond_cases, then-parts, not_err, same_ok, bytes-sound, run-splits, run_length, key-sound, WordSays, Worded, word_sound}
-use Rattle.grammar.proofs.Soundexpr.{Read-expr, expr-sound}
+use Rattle.grammar.proofs.Soundexpr.{ReadExpr, expr_sound}
 
 -- only the two words have a kind
 pub kind-cell : (k : Option Keyword) (f : Bool) → cell_kind_spec k ≡ Some f → ((k ≡ Some kw.Cell) × (f ≡ false)) ⊎ ((k ≡ Some kw.Field) × (f ≡ true))
@@ -48,28 +48,28 @@ module _ (find : List ℕ → Option ℕ) (text : List ℕ) (N : ℕ → List �
   -- an expression, and the end of the line
   record Ended (l : Line) (i : ℕ) (r : Lined) : Type 0 where
     spelling : List ℕ
-    is : Some-expr N o text spelling
-    line-is : r.line ≡ l
-    next-is : r.next ≡ i + (length spelling + 1)
+    is : SomeExpr N o text spelling
+    line_is : r.line ≡ l
+    next_is : r.next ≡ i + (length spelling + 1)
     here : drop i text ≡ spelling ++ (10 ∷ drop r.next text)
 
-  with-sound : (l : Line) (i : ℕ) (r : Lined) → with-expr find text l i ≡ Ok r → Ended l i r
-  unfolding with-expr
-  with-sound l i r e =
+  with_sound : (l : Line) (i : ℕ) (r : Lined) → with_expr_spec find text l i ≡ Ok r → Ended l i r
+  unfolding with_expr_spec
+  with_sound l i r e =
       let p = then-parts (expr_at find text 1024 i) _ r e in
-      let x = expr-sound find text N o finds 1024 i p.0 p.1 in
+      let x = expr_sound find text N o finds 1024 i p.0 p.1 in
       let c = closed-sound l p.0 r p.2 in
-      record { spelling = x.spelling; is = x.is; line-is = c.0; next-is = omega (arith, c.1, x.end_is); here = x.here ∙ ap (λ t. x.spelling ++ t) c.2 }
+      record { spelling = x.spelling; is = x.is; line_is = c.0; next_is = omega (arith, c.1, x.end_is); here = x.here ∙ ap (λ t. x.spelling ++ t) c.2 }
 
-  assign-cell : (k i j : ℕ) (f : Bool) (r : Lined) → cell_kind_spec (key_at text j) ≡ Some f → j ≡ i + 3
-      → and_then (bytes_at text (codes " ") (j + run_of word_byte (drop j text))) (λ e. with-expr find text (Read f k e) e) ≡ Ok r
+  assign_cell : (k i j : ℕ) (f : Bool) (r : Lined) → cell_kind_spec (key_at text j) ≡ Some f → j ≡ i + 3
+      → and_then (bytes_at text (codes " ") (j + run_of word_byte (drop j text))) (λ e. with_expr_spec find text (Read f k e) e) ≡ Ok r
       → (w : List ℕ) × (((w ≡ codes "cell") × (f ≡ false)) ⊎ ((w ≡ codes "field") × (f ≡ true))) × (drop j text ≡ w ++ (32 ∷ drop (j + (length w + 1)) text)) × Ended (Read f k (j + (length w + 1))) (j + (length w + 1)) r
-  assign-cell k i j f r q _ e =
+  assign_cell k i j f r q _ e =
       let p = then-parts (bytes_at text (codes " ") (j + run_of word_byte (drop j text))) _ r e in
       let s = bytes-sound text (codes " ") (j + run_of word_byte (drop j text)) p.0 p.1 in
       let w : List ℕ = word_part text j in
       let n : p.0 ≡ j + (length w + 1) = omega (arith, s.1, run_length word_byte text j) in
-      let x = with-sound (Read f k p.0) p.0 r p.2 in (
+      let x = with_sound (Read f k p.0) p.0 r p.2 in (
         w,
         elim (kind-cell (key_at text j) f q) [ inl h ↦ inl (key-sound w kw.Cell h.0, h.1) | inr h ↦ inr (key-sound w kw.Field h.0, h.1) ],
         run-splits word_byte text j ∙ ap (λ t. w ++ t) s.0 ∙ ap (λ m. w ++ (32 ∷ drop m text)) n,
@@ -78,25 +78,25 @@ module _ (find : List ℕ → Option ℕ) (text : List ℕ) (N : ℕ → List �
 
   -- the line that begins with the name a
   module _ (i k : ℕ) (a : List ℕ) (j : ℕ) (nk : N k a) (ha : drop i text ≡ a ++ drop j text) (ej : j ≡ i + length a) where
-    put-here : (r : Lined) (m : ℕ) → m ≡ j + 3 → drop j text ≡ codes " = " ++ drop m text → Ended (Put k m) m r → Line-here N o text i r.line r.next
-    unfolding Line-here
-    put-here r m em hm x =
-        rw x.line-is (a, x.spelling, drop r.next text, nk, x.is, omega arith, x.next-is, ha ∙ ap (λ t. a ++ t) (hm ∙ ap (λ t. codes " = " ++ t) x.here))
+    put_here : (r : Lined) (m : ℕ) → m ≡ j + 3 → drop j text ≡ codes " = " ++ drop m text → Ended (Put k m) m r → LineHere N o text i r.line r.next
+    unfolding LineHere
+    put_here r m em hm x =
+        rw x.line_is (a, x.spelling, drop r.next text, nk, x.is, omega arith, x.next_is, ha ∙ ap (λ t. a ++ t) (hm ∙ ap (λ t. codes " = " ++ t) x.here))
 
-    read_cell : (r : Lined) (m : ℕ) (f : Bool) → f ≡ false → m ≡ j + 8 → drop j text ≡ codes " = cell " ++ drop m text → Ended (Read f k m) m r → Line-here N o text i r.line r.next
-    unfolding Line-here
+    read_cell : (r : Lined) (m : ℕ) (f : Bool) → f ≡ false → m ≡ j + 8 → drop j text ≡ codes " = cell " ++ drop m text → Ended (Read f k m) m r → LineHere N o text i r.line r.next
+    unfolding LineHere
     read_cell r m f ef em hm x =
-        rw (x.line-is, ef) (a, x.spelling, drop r.next text, nk, x.is, omega arith, x.next-is, ha ∙ ap (λ t. a ++ t) (hm ∙ ap (λ t. codes " = cell " ++ t) x.here))
+        rw (x.line_is, ef) (a, x.spelling, drop r.next text, nk, x.is, omega arith, x.next_is, ha ∙ ap (λ t. a ++ t) (hm ∙ ap (λ t. codes " = cell " ++ t) x.here))
 
-    read-field : (r : Lined) (m : ℕ) (f : Bool) → f ≡ true → m ≡ j + 9 → drop j text ≡ codes " = field " ++ drop m text → Ended (Read f k m) m r → Line-here N o text i r.line r.next
-    unfolding Line-here
+    read-field : (r : Lined) (m : ℕ) (f : Bool) → f ≡ true → m ≡ j + 9 → drop j text ≡ codes " = field " ++ drop m text → Ended (Read f k m) m r → LineHere N o text i r.line r.next
+    unfolding LineHere
     read-field r m f ef em hm x =
-        rw (x.line-is, ef) (a, x.spelling, drop r.next text, nk, x.is, omega arith, x.next-is, ha ∙ ap (λ t. a ++ t) (hm ∙ ap (λ t. codes " = field " ++ t) x.here))
+        rw (x.line_is, ef) (a, x.spelling, drop r.next text, nk, x.is, omega arith, x.next_is, ha ∙ ap (λ t. a ++ t) (hm ∙ ap (λ t. codes " = field " ++ t) x.here))
 
-    assign-by-sound : (m : ℕ) (c : Option Bool) (r : Lined) → m ≡ j + 3 → drop j text ≡ codes " = " ++ drop m text → cell_kind_spec (key_at text m) ≡ c → assign-by find text k m c ≡ Ok r → Line-here N o text i r.line r.next
-    assign-by-sound m None r em hm q e = put-here r m em hm (with-sound (Put k m) m r e)
-    assign-by-sound m (Some f) r em hm q e =
-        let x = assign-cell k j m f r q em e in
+    assign_by_sound : (m : ℕ) (c : Option Bool) (r : Lined) → m ≡ j + 3 → drop j text ≡ codes " = " ++ drop m text → cell_kind_spec (key_at text m) ≡ c → assign_by find text k m c ≡ Ok r → LineHere N o text i r.line r.next
+    assign_by_sound m None r em hm q e = put_here r m em hm (with_sound (Put k m) m r e)
+    assign_by_sound m (Some f) r em hm q e =
+        let x = assign_cell k j m f r q em e in
         elim x.1 [
           | inl p ↦
               let n : m + (length x.0 + 1) ≡ m + 5 = rw p.0 refl in
@@ -106,111 +106,111 @@ module _ (find : List ℕ → Option ℕ) (text : List ℕ) (N : ℕ → List �
               read-field r (m + 6) f p.1 (omega arith) (hm ∙ ap (λ t. codes " = " ++ t) (x.2 ∙ ap (λ t. t ++ (32 ∷ drop (m + (length x.0 + 1)) text)) p.0 ∙ ap (λ t. codes "field" ++ (32 ∷ drop t text)) n)) (rw n at x.3)
         ]
 
-    assign-sound : (r : Lined) → assign-at find text k j ≡ Ok r → Line-here N o text i r.line r.next
-    unfolding assign-at
-    assign-sound r e =
+    assign_sound : (r : Lined) → assign_at find text k j ≡ Ok r → LineHere N o text i r.line r.next
+    unfolding assign_at
+    assign_sound r e =
         let p = then-parts (bytes_at text (codes " = ") j) _ r e in
         let s = bytes-sound text (codes " = ") j p.0 p.1 in
-        assign-by-sound p.0 (cell_kind_spec (key_at text p.0)) r s.1 s.0 refl p.2
+        assign_by_sound p.0 (cell_kind_spec (key_at text p.0)) r s.1 s.0 refl p.2
 
   -- a line that begins with a word of the language, which ends at j
   record Written (l : Bool → ℕ → ℕ → Line) (f : Bool) (j : ℕ) (r : Lined) : Type 0 where
     first : List ℕ
     second : List ℕ
-    first-is : Some-expr N o text first
-    second_is : Some-expr N o text second
-    line-is : r.line ≡ l f (j + 1) ((j + 1) + (length first + 3))
-    next-is : r.next ≡ ((j + 1) + (length first + 3)) + (length second + 1)
+    first_is : SomeExpr N o text first
+    second_is : SomeExpr N o text second
+    line_is : r.line ≡ l f (j + 1) ((j + 1) + (length first + 3))
+    next_is : r.next ≡ ((j + 1) + (length first + 3)) + (length second + 1)
     here : drop j text ≡ 32 ∷ (first ++ (codes " = " ++ (second ++ (10 ∷ drop r.next text))))
 
-  write-sound : (f : Bool) (j : ℕ) (r : Lined) → write-at find text f j ≡ Ok r → Written Write f j r
-  unfolding write-at
-  write-sound f j r e =
+  write_sound : (f : Bool) (j : ℕ) (r : Lined) → write_at find text f j ≡ Ok r → Written Write f j r
+  unfolding write_at
+  write_sound f j r e =
       let p = then-parts (bytes_at text (codes " ") j) _ r e in
       let s = bytes-sound text (codes " ") j p.0 p.1 in
       let q = then-parts (expr_at find text 1024 p.0) _ r p.2 in
-      let x = expr-sound find text N o finds 1024 p.0 q.0 q.1 in
+      let x = expr_sound find text N o finds 1024 p.0 q.0 q.1 in
       let t = then-parts (bytes_at text (codes " = ") q.0) _ r q.2 in
       let y = bytes-sound text (codes " = ") q.0 t.0 t.1 in
-      let z = with-sound (Write f p.0 t.0) t.0 r t.2 in
+      let z = with_sound (Write f p.0 t.0) t.0 r t.2 in
       let a : p.0 ≡ j + 1 = s.1 in
       let b : t.0 ≡ (j + 1) + (length x.spelling + 3) = omega (arith, y.1, x.end_is, s.1) in
       record {
         first = x.spelling;
         second = z.spelling;
-        first-is = x.is;
+        first_is = x.is;
         second_is = z.is;
-        line-is = z.line-is ∙ ap (λ m. Write f m t.0) a ∙ ap (λ m. Write f (j + 1) m) b;
-        next-is = z.next-is ∙ ap (λ m. m + (length z.spelling + 1)) b;
+        line_is = z.line_is ∙ ap (λ m. Write f m t.0) a ∙ ap (λ m. Write f (j + 1) m) b;
+        next_is = z.next_is ∙ ap (λ m. m + (length z.spelling + 1)) b;
         here = s.0 ∙ ap (λ m. 32 ∷ m) (x.here ∙ ap (λ m. x.spelling ++ m) (y.0 ∙ ap (λ m. codes " = " ++ m) z.here));
       }
 
   record Headed (l : ℕ → Line) (j : ℕ) (r : Lined) : Type 0 where
     spelling : List ℕ
-    is : Some-expr N o text spelling
-    line-is : r.line ≡ l (j + 1)
-    next-is : r.next ≡ (j + 1) + (length spelling + 1)
+    is : SomeExpr N o text spelling
+    line_is : r.line ≡ l (j + 1)
+    next_is : r.next ≡ (j + 1) + (length spelling + 1)
     here : drop j text ≡ 32 ∷ (spelling ++ (10 ∷ drop r.next text))
 
-  head-sound : (l : ℕ → Line) (j : ℕ) (r : Lined) → and_then (bytes_at text (codes " ") j) (λ e. with-expr find text (l e) e) ≡ Ok r → Headed l j r
-  head-sound l j r e =
+  head_sound : (l : ℕ → Line) (j : ℕ) (r : Lined) → and_then (bytes_at text (codes " ") j) (λ e. with_expr_spec find text (l e) e) ≡ Ok r → Headed l j r
+  head_sound l j r e =
       let p = then-parts (bytes_at text (codes " ") j) _ r e in
       let s = bytes-sound text (codes " ") j p.0 p.1 in
-      let x = with-sound (l p.0) p.0 r p.2 in
+      let x = with_sound (l p.0) p.0 r p.2 in
       record {
         spelling = x.spelling;
         is = x.is;
-        line-is = x.line-is ∙ ap l s.1;
-        next-is = x.next-is ∙ ap (λ m. m + (length x.spelling + 1)) s.1;
+        line_is = x.line_is ∙ ap l s.1;
+        next_is = x.next_is ∙ ap (λ m. m + (length x.spelling + 1)) s.1;
         here = s.0 ∙ ap (λ m. 32 ∷ m) x.here;
       }
 
-  key-line : (k : Keyword) (i j : ℕ) (r : Lined) → drop i text ≡ written k ++ drop j text → j ≡ i + length (written k) → by_key find text k j ≡ Ok r → Line-here N o text i r.line r.next
-  unfolding by_key Line-here
-  key-line kw.Own i j r h n e = absurd (not_err (Shape j) r e)
-  key-line kw.Cells i j r h n e = absurd (not_err (Shape j) r e)
-  key-line kw.Cell i j r h n e =
-      let x = write-sound false j r e in
-      rw x.line-is (x.first, x.second, drop r.next text, x.first-is, x.second_is, omega arith, omega arith, x.next-is, h ∙ ap (λ t. codes "cell" ++ t) x.here)
-  key-line kw.Field i j r h n e =
-      let x = write-sound true j r e in
-      rw x.line-is (x.first, x.second, drop r.next text, x.first-is, x.second_is, omega arith, omega arith, x.next-is, h ∙ ap (λ t. codes "field" ++ t) x.here)
-  key-line kw.Barrier i j r h n e = let x = closed-sound Barrier j r e in rw x.0 (drop r.next text, omega (arith, x.1), h ∙ ap (λ t. codes "barrier" ++ t) x.2)
-  key-line kw.If i j r h n e =
-      let x = head-sound If j r e in
-      rw x.line-is (x.spelling, drop r.next text, x.is, omega arith, x.next-is, h ∙ ap (λ t. codes "if" ++ t) x.here)
-  key-line kw.Else i j r h n e = let x = closed-sound Else j r e in rw x.0 (drop r.next text, omega (arith, x.1), h ∙ ap (λ t. codes "else" ++ t) x.2)
-  key-line kw.End i j r h n e = let x = closed-sound End j r e in rw x.0 (drop r.next text, omega (arith, x.1), h ∙ ap (λ t. codes "end" ++ t) x.2)
-  key-line kw.While i j r h n e =
-      let x = head-sound While j r e in
-      rw x.line-is (x.spelling, drop r.next text, x.is, omega arith, x.next-is, h ∙ ap (λ t. codes "while" ++ t) x.here)
-  key-line kw.Lane i j r h n e = absurd (not_err (Shape j) r e)
-  key-line kw.Group i j r h n e = absurd (not_err (Shape j) r e)
-  key-line kw.Lanes i j r h n e = absurd (not_err (Shape j) r e)
+  key_line : (k : Keyword) (i j : ℕ) (r : Lined) → drop i text ≡ written k ++ drop j text → j ≡ i + length (written k) → by_key find text k j ≡ Ok r → LineHere N o text i r.line r.next
+  unfolding by_key LineHere
+  key_line kw.Own i j r h n e = absurd (not_err (Shape j) r e)
+  key_line kw.Cells i j r h n e = absurd (not_err (Shape j) r e)
+  key_line kw.Cell i j r h n e =
+      let x = write_sound false j r e in
+      rw x.line_is (x.first, x.second, drop r.next text, x.first_is, x.second_is, omega arith, omega arith, x.next_is, h ∙ ap (λ t. codes "cell" ++ t) x.here)
+  key_line kw.Field i j r h n e =
+      let x = write_sound true j r e in
+      rw x.line_is (x.first, x.second, drop r.next text, x.first_is, x.second_is, omega arith, omega arith, x.next_is, h ∙ ap (λ t. codes "field" ++ t) x.here)
+  key_line kw.Barrier i j r h n e = let x = closed-sound Barrier j r e in rw x.0 (drop r.next text, omega (arith, x.1), h ∙ ap (λ t. codes "barrier" ++ t) x.2)
+  key_line kw.If i j r h n e =
+      let x = head_sound If j r e in
+      rw x.line_is (x.spelling, drop r.next text, x.is, omega arith, x.next_is, h ∙ ap (λ t. codes "if" ++ t) x.here)
+  key_line kw.Else i j r h n e = let x = closed-sound Else j r e in rw x.0 (drop r.next text, omega (arith, x.1), h ∙ ap (λ t. codes "else" ++ t) x.2)
+  key_line kw.End i j r h n e = let x = closed-sound End j r e in rw x.0 (drop r.next text, omega (arith, x.1), h ∙ ap (λ t. codes "end" ++ t) x.2)
+  key_line kw.While i j r h n e =
+      let x = head_sound While j r e in
+      rw x.line_is (x.spelling, drop r.next text, x.is, omega arith, x.next_is, h ∙ ap (λ t. codes "while" ++ t) x.here)
+  key_line kw.Lane i j r h n e = absurd (not_err (Shape j) r e)
+  key_line kw.Group i j r h n e = absurd (not_err (Shape j) r e)
+  key_line kw.Lanes i j r h n e = absurd (not_err (Shape j) r e)
 
-  word_line : (i : ℕ) (u : List ℕ) (w : Word) (j : ℕ) (r : Lined) → WordSays find u w → drop i text ≡ u ++ drop j text → j ≡ i + length u → by_word find text w j ≡ Ok r → Line-here N o text i r.line r.next
-  word_line i u (word.Own k) j r s h n e = assign-sound i k u j (finds k u s.1).0 h n r e
-  word_line i u (word.Key k) j r s h n e = key-line k i j r (h ∙ ap (λ t. t ++ drop j text) s) (n ∙ ap (λ t. i + length t) s) e
+  word_line : (i : ℕ) (u : List ℕ) (w : Word) (j : ℕ) (r : Lined) → WordSays find u w → drop i text ≡ u ++ drop j text → j ≡ i + length u → by_word find text w j ≡ Ok r → LineHere N o text i r.line r.next
+  word_line i u (word.Own k) j r s h n e = assign_sound i k u j (finds k u s.1).0 h n r e
+  word_line i u (word.Key k) j r s h n e = key_line k i j r (h ∙ ap (λ t. t ++ drop j text) s) (n ∙ ap (λ t. i + length t) s) e
 
-  pub bare-sound : (i : ℕ) (r : Lined) → bare-at find text i ≡ Ok r → Line-here N o text i r.line r.next
-  unfolding bare-at
-  bare-sound i r e =
+  pub bare_sound : (i : ℕ) (r : Lined) → bare_at find text i ≡ Ok r → LineHere N o text i r.line r.next
+  unfolding bare_at
+  bare_sound i r e =
       let p = then-parts (word_at find text i) _ r e in
       let w = word_sound find text i p.0 p.1 in
       word_line i (word_part text i) p.0.word p.0.end r w.says w.here w.end_is p.2
 
   -- a line that is taken has 1,024 bytes at most
-  within-ok : (i : ℕ) (r : Result Lined Refusal) (l : Lined) → within_line_spec i r ≡ Ok l → (r ≡ Ok l) × (l.next - i ≤ 1025)
-  within-ok i (Ok m) l e =
+  within_ok : (i : ℕ) (r : Result Lined Refusal) (l : Lined) → within_line_spec i r ≡ Ok l → (r ≡ Ok l) × (l.next - i ≤ 1025)
+  within_ok i (Ok m) l e =
       elim (cond_cases (ltb 1025 (m.next - i)) _ _ (Ok l) e)
       [ inl p ↦ absurd (not_err (Long (i + 1024)) l p.1) | inr p ↦ let q : m ≡ l = same_ok m l p.1 in (ap (λ x. Ok x) q, rw (sym q) (ltb-false 1025 (m.next - i) p.0)) ]
-  within-ok i (Err d) l e =
+  within_ok i (Err d) l e =
       elim (cond_cases (ltb 1024 (place_of d - i)) _ _ (Ok l) e) [ inl p ↦ absurd (not_err (Long (i + 1024)) l p.1) | inr p ↦ absurd (not_err d l p.1) ]
 
-  pub line-sound : (i : ℕ) (r : Lined) → line_at find text i ≡ Ok r → Line-here N o text i r.line r.next × (r.next ≤ i + 1025)
+  pub line_sound : (i : ℕ) (r : Lined) → line_at find text i ≡ Ok r → LineHere N o text i r.line r.next × (r.next ≤ i + 1025)
   unfolding line_at
-  line-sound i r e = let p = within-ok i (bare-at find text i) r e in (bare-sound i r p.0, omega (arith, p.1))
+  line_sound i r e = let p = within_ok i (bare_at find text i) r e in (bare_sound i r p.0, omega (arith, p.1))
 
-  pub line_made : (i : ℕ) (r : Result Lined Refusal) → r ≡ line_at find text i → IfOk r (λ l. Line-here N o text i l.line l.next × (l.next ≤ i + 1025))
-  line_made i (Ok l) e = line-sound i l (sym e)
+  pub line_made : (i : ℕ) (r : Result Lined Refusal) → r ≡ line_at find text i → IfOk r (λ l. LineHere N o text i l.line l.next × (l.next ≤ i + 1025))
+  line_made i (Ok l) e = line_sound i l (sym e)
   line_made i (Err d) e = tt

@@ -97,9 +97,9 @@ key-none w h =
       same_not (codes "lanes") w (h Lanes),
     )
 
-pub key-is : (w : List ℕ) (r : Option Keyword) → Keyed w r → r ≡ key_of w
-key-is w None h = sym (key-none w h)
-key-is w (Some k) h = rw h (sym (key-written k))
+pub key_is : (w : List ℕ) (r : Option Keyword) → Keyed w r → r ≡ key_of w
+key_is w None h = sym (key-none w h)
+key_is w (Some k) h = rw h (sym (key-written k))
 
 -- the place of a name
 place-cons : (n : List ℕ) (ns : List (List ℕ)) (u : List ℕ) (x : Bool) → same_bytes n u ≡ x → place_in (n ∷ ns) u ≡ cond x (Some 0) (one_more (place_in ns u))
@@ -148,11 +148,11 @@ module _ (find : List ℕ → Option ℕ) (text : List ℕ) (i : ℕ) where
       let n : r - i ≡ run_of word_byte (drop i text) = omega (arith, word-end-run text i r w) in
       let m : r ≡ i + run_of word_byte (drop i text) = word-end-run text i r w in
       let f : o ≡ find (word_part text i) = e ∙ ap (λ m. find (take m (drop i text))) n in
-      let g : k ≡ key_at text i = key-is (take (r - i) (drop i text)) k q ∙ ap (λ m. key_of (take m (drop i text))) n in
+      let g : k ≡ key_at text i = key_is (take (r - i) (drop i text)) k q ∙ ap (λ m. key_of (take m (drop i text))) n in
       rw (h, lt-leb 9 (run_of word_byte (drop i text)) (omega arith), ← g, ← f, ← m) refl
 
 pub key_here : (text : List ℕ) (i r : ℕ) (k : Option Keyword) → WordEnd text i r → Keyed (take (r - i) (drop i text)) k → k ≡ key_at text i
-key_here text i r k w q = key-is (take (r - i) (drop i text)) k q ∙ ap (λ m. key_of (take m (drop i text))) (omega (arith, word-end-run text i r w))
+key_here text i r k w q = key_is (take (r - i) (drop i text)) k q ∙ ap (λ m. key_of (take m (drop i text))) (omega (arith, word-end-run text i r w))
 
 -- wanted bytes
 pub bytes-none : (text : List ℕ) (i : ℕ) → bytes_at text [] i ≡ Ok i

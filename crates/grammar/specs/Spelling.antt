@@ -60,40 +60,40 @@ infix_of u op v = 40 ∷ (u ++ (32 ∷ op ∷ 32 ∷ (v ++ (41 ∷ []))))
 -- N k u says that the bytes u may stand for own number k.
 module _ (N : ℕ → List ℕ → Type 0) where
   -- The bytes t spell the expression.
-  unfoldable pub Spells-expr : Expr → List ℕ → Type 0
-  Spells-expr (fixed a) t = IsNumber a t
-  Spells-expr (var k) t = N k t
-  Spells-expr lane t = t ≡ codes "lane"
-  Spells-expr group t = t ≡ codes "group"
-  Spells-expr lanes t = t ≡ codes "lanes"
-  Spells-expr (plus e f) t = (u : List ℕ) × (v : List ℕ) × Spells-expr e u × Spells-expr f v × (t ≡ infix_of u 43 v)
-  Spells-expr (minus e f) t = (u : List ℕ) × (v : List ℕ) × Spells-expr e u × Spells-expr f v × (t ≡ infix_of u 45 v)
-  Spells-expr (times e f) t = (u : List ℕ) × (v : List ℕ) × Spells-expr e u × Spells-expr f v × (t ≡ infix_of u 42 v)
-  Spells-expr (over e f) t = (u : List ℕ) × (v : List ℕ) × Spells-expr e u × Spells-expr f v × (t ≡ infix_of u 47 v)
-  Spells-expr (rest_of e f) t = (u : List ℕ) × (v : List ℕ) × Spells-expr e u × Spells-expr f v × (t ≡ infix_of u 37 v)
-  Spells-expr (less e f) t = (u : List ℕ) × (v : List ℕ) × Spells-expr e u × Spells-expr f v × (t ≡ infix_of u 60 v)
-  Spells-expr (same e f) t = (u : List ℕ) × (v : List ℕ) × Spells-expr e u × Spells-expr f v × (t ≡ infix_of u 61 v)
+  unfoldable pub SpellsExpr : Expr → List ℕ → Type 0
+  SpellsExpr (fixed a) t = IsNumber a t
+  SpellsExpr (var k) t = N k t
+  SpellsExpr lane t = t ≡ codes "lane"
+  SpellsExpr group t = t ≡ codes "group"
+  SpellsExpr lanes t = t ≡ codes "lanes"
+  SpellsExpr (plus e f) t = (u : List ℕ) × (v : List ℕ) × SpellsExpr e u × SpellsExpr f v × (t ≡ infix_of u 43 v)
+  SpellsExpr (minus e f) t = (u : List ℕ) × (v : List ℕ) × SpellsExpr e u × SpellsExpr f v × (t ≡ infix_of u 45 v)
+  SpellsExpr (times e f) t = (u : List ℕ) × (v : List ℕ) × SpellsExpr e u × SpellsExpr f v × (t ≡ infix_of u 42 v)
+  SpellsExpr (over e f) t = (u : List ℕ) × (v : List ℕ) × SpellsExpr e u × SpellsExpr f v × (t ≡ infix_of u 47 v)
+  SpellsExpr (rest_of e f) t = (u : List ℕ) × (v : List ℕ) × SpellsExpr e u × SpellsExpr f v × (t ≡ infix_of u 37 v)
+  SpellsExpr (less e f) t = (u : List ℕ) × (v : List ℕ) × SpellsExpr e u × SpellsExpr f v × (t ≡ infix_of u 60 v)
+  SpellsExpr (same e f) t = (u : List ℕ) × (v : List ℕ) × SpellsExpr e u × SpellsExpr f v × (t ≡ infix_of u 61 v)
 
   -- The bytes t, which are whole lines, spell the body. An else with nothing behind it may be left out.
-  unfoldable pub Spells-body : Body → List ℕ → Type 0
-  Spells-body end t = t ≡ []
-  Spells-body (put k e b) t =
-      (a : List ℕ) × (u : List ℕ) × (z : List ℕ) × N k a × Spells-expr e u × Spells-body b z × (t ≡ a ++ (codes " = " ++ (u ++ (10 ∷ z))))
-  Spells-body (read_shared k e b) t =
-      (a : List ℕ) × (u : List ℕ) × (z : List ℕ) × N k a × Spells-expr e u × Spells-body b z × (t ≡ a ++ (codes " = cell " ++ (u ++ (10 ∷ z))))
-  Spells-body (write_shared e f b) t =
-      (u : List ℕ) × (v : List ℕ) × (z : List ℕ) × Spells-expr e u × Spells-expr f v × Spells-body b z × (t ≡ codes "cell " ++ (u ++ (codes " = " ++ (v ++ (10 ∷ z)))))
-  Spells-body (read_all k e b) t =
-      (a : List ℕ) × (u : List ℕ) × (z : List ℕ) × N k a × Spells-expr e u × Spells-body b z × (t ≡ a ++ (codes " = field " ++ (u ++ (10 ∷ z))))
-  Spells-body (write_all e f b) t =
-      (u : List ℕ) × (v : List ℕ) × (z : List ℕ) × Spells-expr e u × Spells-expr f v × Spells-body b z × (t ≡ codes "field " ++ (u ++ (codes " = " ++ (v ++ (10 ∷ z)))))
-  Spells-body (barrier b) t = (z : List ℕ) × Spells-body b z × (t ≡ codes "barrier" ++ (10 ∷ z))
-  Spells-body (when e c d b) t =
-      (u : List ℕ) × (x : List ℕ) × (y : List ℕ) × (z : List ℕ) × Spells-expr e u × Spells-body c x
-      × (((d ≡ end) × (y ≡ [])) ⊎ ((w : List ℕ) × Spells-body d w × (y ≡ codes "else" ++ (10 ∷ w)))) × Spells-body b z
+  unfoldable pub SpellsBody : Body → List ℕ → Type 0
+  SpellsBody end t = t ≡ []
+  SpellsBody (put k e b) t =
+      (a : List ℕ) × (u : List ℕ) × (z : List ℕ) × N k a × SpellsExpr e u × SpellsBody b z × (t ≡ a ++ (codes " = " ++ (u ++ (10 ∷ z))))
+  SpellsBody (read_shared k e b) t =
+      (a : List ℕ) × (u : List ℕ) × (z : List ℕ) × N k a × SpellsExpr e u × SpellsBody b z × (t ≡ a ++ (codes " = cell " ++ (u ++ (10 ∷ z))))
+  SpellsBody (write_shared e f b) t =
+      (u : List ℕ) × (v : List ℕ) × (z : List ℕ) × SpellsExpr e u × SpellsExpr f v × SpellsBody b z × (t ≡ codes "cell " ++ (u ++ (codes " = " ++ (v ++ (10 ∷ z)))))
+  SpellsBody (read_all k e b) t =
+      (a : List ℕ) × (u : List ℕ) × (z : List ℕ) × N k a × SpellsExpr e u × SpellsBody b z × (t ≡ a ++ (codes " = field " ++ (u ++ (10 ∷ z))))
+  SpellsBody (write_all e f b) t =
+      (u : List ℕ) × (v : List ℕ) × (z : List ℕ) × SpellsExpr e u × SpellsExpr f v × SpellsBody b z × (t ≡ codes "field " ++ (u ++ (codes " = " ++ (v ++ (10 ∷ z)))))
+  SpellsBody (barrier b) t = (z : List ℕ) × SpellsBody b z × (t ≡ codes "barrier" ++ (10 ∷ z))
+  SpellsBody (when e c d b) t =
+      (u : List ℕ) × (x : List ℕ) × (y : List ℕ) × (z : List ℕ) × SpellsExpr e u × SpellsBody c x
+      × (((d ≡ end) × (y ≡ [])) ⊎ ((w : List ℕ) × SpellsBody d w × (y ≡ codes "else" ++ (10 ∷ w)))) × SpellsBody b z
       × (t ≡ codes "if " ++ (u ++ (10 ∷ (x ++ (y ++ (codes "end" ++ (10 ∷ z)))))))
-  Spells-body (while e c b) t =
-      (u : List ℕ) × (x : List ℕ) × (z : List ℕ) × Spells-expr e u × Spells-body c x × (c ≢ end) × Spells-body b z
+  SpellsBody (while e c b) t =
+      (u : List ℕ) × (x : List ℕ) × (z : List ℕ) × SpellsExpr e u × SpellsBody c x × (c ≢ end) × SpellsBody b z
       × (t ≡ codes "while " ++ (u ++ (10 ∷ (x ++ (codes "end" ++ (10 ∷ z))))))
 
 -- The line that names the own numbers, missing if there are none; and the one that says how many cells a group has, which may be missing if there are none.
@@ -113,7 +113,7 @@ pub record Spelled (N : ℕ → List ℕ → Type 0) (ns : List (List ℕ)) (p :
   pub own_line : OwnLine ns own_part
   pub cells_line_spec : CellsLine p.shared cells_part
   pub names : (k : ℕ) → k < length ns → IsName (slice_index_or ns k [])
-  pub body : Spells-body N p.body body_part
+  pub body : SpellsBody N p.body body_part
 
 -- Any name may stand for any own number: the shape of a text alone. With it, the beginning of a text can go on.
 abbrev pub AnyName : ℕ → List ℕ → Type 0

@@ -34,40 +34,40 @@ unfoldable pub closed : List ℕ → Line → ℕ → Result Lined Refusal
 closed text l i = and_then (bytes_at text (codes "\n") i) (λ n. Ok (record { line = l; next = n }))
 
 module _ (find : List ℕ → Option ℕ) (text : List ℕ) where
-  unfoldable pub with-expr : Line → ℕ → Result Lined Refusal
-  with-expr l i = and_then (expr_at find text 1024 i) (λ j. closed text l j)
+  unfoldable pub with_expr_spec : Line → ℕ → Result Lined Refusal
+  with_expr_spec l i = and_then (expr_at find text 1024 i) (λ j. closed text l j)
 
-  abbrev pub assign-by : ℕ → ℕ → Option Bool → Result Lined Refusal
-  assign-by k j None = with-expr (line.Put k j) j
-  assign-by k j (Some f) = and_then (bytes_at text (codes " ") (j + run_of word_byte (drop j text))) (λ e. with-expr (line.Read f k e) e)
+  abbrev pub assign_by : ℕ → ℕ → Option Bool → Result Lined Refusal
+  assign_by k j None = with_expr_spec (line.Put k j) j
+  assign_by k j (Some f) = and_then (bytes_at text (codes " ") (j + run_of word_byte (drop j text))) (λ e. with_expr_spec (line.Read f k e) e)
 
-  unfoldable pub assign-at : ℕ → ℕ → Result Lined Refusal
-  assign-at k i = and_then (bytes_at text (codes " = ") i) (λ j. assign-by k j (cell_kind_spec (key_at text j)))
+  unfoldable pub assign_at : ℕ → ℕ → Result Lined Refusal
+  assign_at k i = and_then (bytes_at text (codes " = ") i) (λ j. assign_by k j (cell_kind_spec (key_at text j)))
 
-  unfoldable pub write-at : Bool → ℕ → Result Lined Refusal
-  write-at f i =
-      and_then (bytes_at text (codes " ") i) (λ p. and_then (expr_at find text 1024 p) (λ j. and_then (bytes_at text (codes " = ") j) (λ v. with-expr (line.Write f p v) v)))
+  unfoldable pub write_at : Bool → ℕ → Result Lined Refusal
+  write_at f i =
+      and_then (bytes_at text (codes " ") i) (λ p. and_then (expr_at find text 1024 p) (λ j. and_then (bytes_at text (codes " = ") j) (λ v. with_expr_spec (line.Write f p v) v)))
 
   unfoldable pub by_key : Keyword → ℕ → Result Lined Refusal
   by_key Own i = Err (Shape i)
   by_key Cells i = Err (Shape i)
-  by_key Cell i = write-at false i
-  by_key Field i = write-at true i
+  by_key Cell i = write_at false i
+  by_key Field i = write_at true i
   by_key Barrier i = closed text line.Barrier i
-  by_key If i = and_then (bytes_at text (codes " ") i) (λ e. with-expr (line.If e) e)
+  by_key If i = and_then (bytes_at text (codes " ") i) (λ e. with_expr_spec (line.If e) e)
   by_key Else i = closed text line.Else i
   by_key End i = closed text line.End i
-  by_key While i = and_then (bytes_at text (codes " ") i) (λ e. with-expr (line.While e) e)
+  by_key While i = and_then (bytes_at text (codes " ") i) (λ e. with_expr_spec (line.While e) e)
   by_key Lane i = Err (Shape i)
   by_key Group i = Err (Shape i)
   by_key Lanes i = Err (Shape i)
 
   abbrev pub by_word : Word → ℕ → Result Lined Refusal
-  by_word (word.Own k) i = assign-at k i
+  by_word (word.Own k) i = assign_at k i
   by_word (word.Key k) i = by_key k i
 
-  unfoldable pub bare-at : ℕ → Result Lined Refusal
-  bare-at i = and_then (word_at find text i) (λ t. by_word t.word t.end)
+  unfoldable pub bare_at : ℕ → Result Lined Refusal
+  bare_at i = and_then (word_at find text i) (λ t. by_word t.word t.end)
 
 -- A fault behind the line's 1,024 bytes, or a line that ends there, is a line that is too long.
 abbrev pub within_line_spec : ℕ → Result Lined Refusal → Result Lined Refusal
@@ -76,4 +76,4 @@ within_line_spec i (Err e) = cond (nat_lt 1024 (place_of e - i)) (Err (Long (i +
 
 -- The line at byte i.
 unfoldable pub line_at : (List ℕ → Option ℕ) → List ℕ → ℕ → Result Lined Refusal
-line_at find text i = within_line_spec i (bare-at find text i)
+line_at find text i = within_line_spec i (bare_at find text i)

@@ -1,11 +1,11 @@
 // One line of a text.
 ghost use Rattle.std.specs.Prelude.{◌≡◌, ℕ, ◌+◌, ◌≤◌, List, length, IfOk, Ok};
-ghost use Rattle.grammar.specs.Lines.{Line-here};
+ghost use Rattle.grammar.specs.Lines.{LineHere};
 ghost use Rattle.grammar.specs.Names.{NamesIn};
 ghost use Rattle.grammar.specs.Spelling.{Named};
 ghost use Rattle.grammar.specs.Taken.{Distinct};
 ghost use Rattle.grammar.specs.Walk.{place_in};
-ghost use Rattle.grammar.specs.WalkLine.{cell_kind_spec, with-expr, closed, assign-at, write-at, by_key, bare-at, within_line_spec, line_at};
+ghost use Rattle.grammar.specs.WalkLine.{cell_kind_spec, with_expr_spec, closed, assign_at, write_at, by_key, bare_at, within_line_spec, line_at};
 
 use crate::exprs::read_expr;
 use crate::keywords::Keyword;
@@ -50,7 +50,7 @@ pub struct Lined {
 
 // The line that ends with the expression at byte i.
 fn with_expr(text: &[u8], line: Line, i: usize) -> Result<Lined, Refusal>
-    ensures { (ns : List (List ℕ)) → NamesIn ns text.now → result ≡ with-expr (place_in ns) text.now line i }
+    ensures { (ns : List (List ℕ)) → NamesIn ns text.now → result ≡ with_expr_spec (place_in ns) text.now line i }
 {
     let end = read_expr(text, i, 1024)?;
     closed(text, line, end)
@@ -77,7 +77,7 @@ fn cell_kind(key: Option<Keyword>) -> Option<bool>
 
 // A line that begins with the name of own number `own`, which ends at byte i.
 fn assign(text: &[u8], own: u32, i: usize) -> Result<Lined, Refusal>
-    ensures { (ns : List (List ℕ)) → NamesIn ns text.now → result ≡ assign-at (place_in ns) text.now own i }
+    ensures { (ns : List (List ℕ)) → NamesIn ns text.now → result ≡ assign_at (place_in ns) text.now own i }
 {
     let at = expect(text, i, b" = ")?;
     match cell_kind(key_here(text, at)) {
@@ -91,7 +91,7 @@ fn assign(text: &[u8], own: u32, i: usize) -> Result<Lined, Refusal>
 
 // A line that begins with `cell` or `field`, which ends at byte i.
 fn write(text: &[u8], field: bool, i: usize) -> Result<Lined, Refusal>
-    ensures { (ns : List (List ℕ)) → NamesIn ns text.now → result ≡ write-at (place_in ns) text.now field i }
+    ensures { (ns : List (List ℕ)) → NamesIn ns text.now → result ≡ write_at (place_in ns) text.now field i }
 {
     let place = expect(text, i, b" ")?;
     let end = read_expr(text, place, 1024)?;
@@ -135,7 +135,7 @@ fn keyed(text: &[u8], key: Keyword, i: usize) -> Result<Lined, Refusal>
 
 // The line at byte pos, however long it is.
 fn bare_line(text: &[u8], pos: usize) -> Result<Lined, Refusal>
-    ensures { (ns : List (List ℕ)) → NamesIn ns text.now → result ≡ bare-at (place_in ns) text.now pos }
+    ensures { (ns : List (List ℕ)) → NamesIn ns text.now → result ≡ bare_at (place_in ns) text.now pos }
 {
     let token = read_word(text, pos)?;
     match token.word {
@@ -172,8 +172,8 @@ pub fn within_line(pos: usize, found: Result<Lined, Refusal>) -> Result<Lined, R
 // that stands there is answered: exactly it.
 pub fn parse_line(text: &[u8], pos: usize) -> Result<Lined, Refusal>
     ensures walk { (ns : List (List ℕ)) → NamesIn ns text.now → result ≡ line_at (place_in ns) text.now pos }
-    ensures stands { (ns : List (List ℕ)) → NamesIn ns text.now → IfOk result (λ l. Line-here (Named ns) (length ns) text.now pos l.line l.next × (l.next ≤ pos + 1025)) }
-    ensures found { (ns : List (List ℕ)) (l : Line) (n : ℕ) → NamesIn ns text.now → Distinct ns → Line-here (Named ns) (length ns) text.now pos l n → n ≤ pos + 1025 → result ≡ Ok (record { line = l; next = n }) }
+    ensures stands { (ns : List (List ℕ)) → NamesIn ns text.now → IfOk result (λ l. LineHere (Named ns) (length ns) text.now pos l.line l.next × (l.next ≤ pos + 1025)) }
+    ensures found { (ns : List (List ℕ)) (l : Line) (n : ℕ) → NamesIn ns text.now → Distinct ns → LineHere (Named ns) (length ns) text.now pos l n → n ≤ pos + 1025 → result ≡ Ok (record { line = l; next = n }) }
 {
     within_line(pos, bare_line(text, pos))
 }

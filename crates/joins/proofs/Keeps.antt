@@ -8,7 +8,7 @@ use Rattle.code.specs.declared.step.Step.TheVariants.{Put, Read, Write, Branch, 
 use Rattle.code.specs.Code.{is_loop}
 use Rattle.code.specs.Settle.{Leads}
 use Rattle.code.specs.Joins.{is_branch, Inside, JoinsAt, Regions}
-use Rattle.joins.specs.Story.{did, parted, went, passed, Story, place, partings, Open, leave, open_joins, branches_of, Held, Fair-did, Fair-parted, Fair-went, Passes, Happened, Falls, Sound}
+use Rattle.joins.specs.Story.{did, parted, went, passed, Story, place, partings, Open, leave, open_joins, branches_of, Held, FairDid, FairParted, FairWent, Passes, Happened, Falls, Sound}
 use Rattle.joins.proofs.Opens.{branches-here, branches-below}
 use Rattle.joins.proofs.Leaves.{falls-from, falls-leave, off-branches, on-branches, branches-top, none-branches}
 use Rattle.joins.proofs.Chains.{Chain, chain-moved, chain-parted, chain-went}
@@ -34,7 +34,7 @@ pub record Inv (code : ℕ → Step) (w : ℕ) (h : Story) : Type 0 where
 pub free-from : (code : ℕ → Step) (h : Story) (i : ℕ) → (Held code h i → ⊥) → (b : ℕ) (cs : List ℕ) → branches_of (open_joins h) i ≡ b ∷ cs → JoinsAt code b (place h i) → ⊥
 free-from code h i f b cs e j =
     let r = branches-top (open_joins h) i b cs e in
-    f (r.0.number, record { join = r.0; top = r.1; its-number = refl; there = subst (λ (v : ℕ). JoinsAt code v (place h i)) (sym r.2) j })
+    f (r.0.number, record { join = r.0; top = r.1; its_number = refl; there = subst (λ (v : ℕ). JoinsAt code v (place h i)) (sym r.2) j })
 
 module _ (code : ℕ → Step) (lines w : ℕ) (g : Regions code lines) (near : (b : ℕ) → is_branch (code b) ≡ true → b ≤ lines) where
   chain-at : (p q : ℕ) (bs cs : List ℕ) → p ≡ q → bs ≡ cs → Chain code q cs → Chain code p bs
@@ -44,7 +44,7 @@ module _ (code : ℕ → Step) (lines w : ℕ) (g : Regions code lines) (near : 
   lane-moved h v i p r e f l =
       chain-moved code lines g near (place h i) r (branches_of (open_joins h) i) (v.chain i) (free-from code h i f) (subst (λ (q : ℕ). Leads code q r) (sym e) l)
 
-  inv-did : (h : Story) (m l : ℕ) (to : ℕ → ℕ) → Inv code w h → Fair-did code w h m l to → Inv code w (did m l to ∷ h)
+  inv-did : (h : Story) (m l : ℕ) (to : ℕ → ℕ) → Inv code w h → FairDid code w h m l to → Inv code w (did m l to ∷ h)
   unfolding place partings open_joins
   inv-did h m l to v f =
       record {
@@ -55,7 +55,7 @@ module _ (code : ℕ → Step) (lines w : ℕ) (g : Regions code lines) (near : 
             (λ q. v.chain i);
       }
 
-  lane-parted : (h : Story) → Inv code w h → (m l : ℕ) (to : ℕ → ℕ) → Fair-parted code w h m l to → (i : ℕ) → on m i ≡ true → Chain code (to i) (l ∷ branches_of (open_joins h) i)
+  lane-parted : (h : Story) → Inv code w h → (m l : ℕ) (to : ℕ → ℕ) → FairParted code w h m l to → (i : ℕ) → on m i ≡ true → Chain code (to i) (l ∷ branches_of (open_joins h) i)
   lane-parted h v m l to f i q =
       let d = f.lanes.each i q in
       let bs : List ℕ = branches_of (open_joins h) i in
@@ -67,7 +67,7 @@ module _ (code : ℕ → Step) (lines w : ℕ) (g : Regions code lines) (near : 
       f.anew (own-loop (code l) l own) i q (r.0, r.1, r.2 ∙ sym s))
       f.branch d.leads
 
-  inv-parted : (h : Story) (m l : ℕ) (to : ℕ → ℕ) → Inv code w h → Fair-parted code w h m l to → Inv code w (parted m l to ∷ h)
+  inv-parted : (h : Story) (m l : ℕ) (to : ℕ → ℕ) → Inv code w h → FairParted code w h m l to → Inv code w (parted m l to ∷ h)
   unfolding place partings open_joins
   inv-parted h m l to v f =
       let o : Open = record { number = partings h; branch = l; lanes = m } in
@@ -82,13 +82,13 @@ module _ (code : ℕ → Step) (lines w : ℕ) (g : Regions code lines) (near : 
         ];
       }
 
-  lane-went : (h : Story) → Inv code w h → (n m : ℕ) → Fair-went code w h n m → (i : ℕ) → on m i ≡ true → Chain code (place h i) (branches_of (leave n m (open_joins h)) i)
+  lane-went : (h : Story) → Inv code w h → (n m : ℕ) → FairWent code w h n m → (i : ℕ) → on m i ≡ true → Chain code (place h i) (branches_of (leave n m (open_joins h)) i)
   lane-went h v n m f i q =
       let c = f.come i q in
-      let e = on-branches (partings h) n m i (open_joins h) c.join v.falls q c.top c.its-number in
+      let e = on-branches (partings h) n m i (open_joins h) c.join v.falls q c.top c.its_number in
       chain-went code lines g near (place h i) c.join.branch (branches_of (leave n m (open_joins h)) i) (subst (λ (bs : List ℕ). Chain code (place h i) bs) e (v.chain i)) c.there
 
-  inv-went : (h : Story) (n m : ℕ) → Inv code w h → Fair-went code w h n m → Inv code w (went n m ∷ h)
+  inv-went : (h : Story) (n m : ℕ) → Inv code w h → FairWent code w h n m → Inv code w (went n m ∷ h)
   unfolding place partings open_joins
   inv-went h n m v f =
       record {

@@ -6,7 +6,7 @@ use Rattle.code.specs.declared.step.Step.{Step}
 use Rattle.code.specs.Joins.{JoinsAt, Regions}
 use Rattle.joins.specs.declared.Join.{Join}
 use Rattle.joins.specs.Stack.{lost, kept_on, leaves, down_from}
-use Rattle.joins.specs.Story.{Story, place, Open, less, thinned, leave, open_joins, topmost, still_in, OwnJoin, Has-come, Falls}
+use Rattle.joins.specs.Story.{Story, place, Open, less, thinned, leave, open_joins, topmost, still_in, OwnJoin, HasCome, Falls}
 use Rattle.joins.specs.Matched.{IsOpen, AreOpen, open_at, Newest, LeftByPlace}
 use Rattle.joins.proofs.Opens.{top-here, top_below, still-apart, thin-cases, leave-here, leave-further}
 use Rattle.joins.proofs.Leaves.{falls-parts, no_top, none-top, one-top}
@@ -200,16 +200,16 @@ module _ (code : ℕ → Step) (f : ℕ → Join) where
       ]
 
   -- A lane that stands where its newest join joins has come to it, and there is no other way to come.
-  pub come-place : (n k i : ℕ) (h : Story) → AreOpen code (open_joins h) (down_from f n) → Newest f n k i → place h i ≡ (f k).line → Has-come code h (open_at (open_joins h) k).number i
+  pub come-place : (n k i : ℕ) (h : Story) → AreOpen code (open_joins h) (down_from f n) → Newest f n k i → place h i ≡ (f k).line → HasCome code h (open_at (open_joins h) k).number i
   come-place n k i h a w e =
       record {
         join = open_at (open_joins h) k;
         top = newest-top n k i (open_joins h) a w;
-        its-number = refl;
+        its_number = refl;
         there = subst (λ (r : ℕ). JoinsAt code (open_at (open_joins h) k).branch r) (sym e) (at_place n k (open_joins h) a w.there).line;
       }
 
-  pub place-come : (lines n m i : ℕ) (h : Story) → Regions code lines → AreOpen code (open_joins h) (down_from f n) → Has-come code h m i →
+  pub place-come : (lines n m i : ℕ) (h : Story) → Regions code lines → AreOpen code (open_joins h) (down_from f n) → HasCome code h m i →
       (k : ℕ) × Newest f n k i × (place h i ≡ (f k).line) × (m ≡ (open_at (open_joins h) k).number)
   place-come lines n m i h g a c =
       let r = top-newest n i (open_joins h) c.join a c.top in
@@ -218,7 +218,7 @@ module _ (code : ℕ → Step) (f : ℕ → Join) where
         r.0,
         r.1,
         g.one_join (open_at (open_joins h) r.0).branch (place h i) (f r.0).line there line,
-        sym c.its-number ∙ ap (λ (v : Open). v.number) r.2,
+        sym c.its_number ∙ ap (λ (v : Open). v.number) r.2,
       )
 
   -- The branch of the newest join that has a lane.

@@ -5,7 +5,7 @@ use Rattle.masks.specs.Masks.{on}
 use Rattle.code.specs.declared.step.Step.{Step}
 use Rattle.code.specs.Words.{step_at}
 use Rattle.code.specs.Joins.{is_branch, JoinsAt, Regions}
-use Rattle.joins.specs.Story.{Event, did, parted, went, passed, Story, place, partings, Open, open_joins, topmost, still_in, branches_of, Has-come, Held, Do-line, Kept-back, Fair-went, Fair, Happened, LeftBehind, is_act_spec, Over, parted_with, leaves_by, goes_on, Kept, JoinsKept}
+use Rattle.joins.specs.Story.{Event, did, parted, went, passed, Story, place, partings, Open, open_joins, topmost, still_in, branches_of, HasCome, Held, DoLine, KeptBack, FairWent, Fair, Happened, LeftBehind, is_act_spec, Over, parted_with, leaves_by, goes_on, Kept, JoinsKept}
 use Rattle.joins.proofs.Opens.{top_below}
 use Rattle.joins.proofs.Leaves.{none-still, one-top, top-has, top-branches, still-top, off-top}
 use Rattle.joins.proofs.Chains.{chain-few, chain-ended, chain-waits}
@@ -14,21 +14,21 @@ use Rattle.joins.proofs.Keeps.{Inv, inv-kept, free-from}
 use Rattle.joins.proofs.Tallies.{bit, come-still, tally-kept}
 
 -- A lane that stays where it is, with the same topmost join.
-come-as : (code : ℕ → Step) (h k : Story) (n i : ℕ) (o : Open) (c : Has-come code h n i) → topmost (open_joins k) i ≡ Some o → o.number ≡ c.join.number → o.branch ≡ c.join.branch → place k i ≡ place h i → Has-come code k n i
+come-as : (code : ℕ → Step) (h k : Story) (n i : ℕ) (o : Open) (c : HasCome code h n i) → topmost (open_joins k) i ≡ Some o → o.number ≡ c.join.number → o.branch ≡ c.join.branch → place k i ≡ place h i → HasCome code k n i
 come-as code h k n i o c t e b p =
     record {
       join = o;
       top = t;
-      its-number = e ∙ c.its-number;
+      its_number = e ∙ c.its_number;
       there = subst (λ (v : ℕ). JoinsAt code v (place k i)) (sym b) (subst (λ (v : ℕ). JoinsAt code c.join.branch v) (sym p) c.there);
     }
 
 module _ (code : ℕ → Step) (w : ℕ) (h : Story) (v : Inv code w h) where
   -- A lane that is held is not in the mask of a line that is done.
-  not_in : (m l : ℕ) (to : ℕ → ℕ) (n i : ℕ) → Has-come code h n i → Do-line code w h m l to → on m i ≡ false
+  not_in : (m l : ℕ) (to : ℕ → ℕ) (n i : ℕ) → HasCome code h n i → DoLine code w h m l to → on m i ≡ false
   not_in m l to n i c d = elim (cases_Bool (on m i)) [ inl q ↦ absurd ((d.each i q).could.free (n, c)) | inr q ↦ q ]
 
-  stay : (e : Event) → Fair code w h e → (n i : ℕ) → Has-come code h n i → leaves_by e n i ≡ false → Has-come code (e ∷ h) n i
+  stay : (e : Event) → Fair code w h e → (n i : ℕ) → HasCome code h n i → leaves_by e n i ≡ false → HasCome code (e ∷ h) n i
   unfolding place open_joins leaves_by
   stay (did m l to) f n i c z =
       let q = not_in m l to n i c f.lanes in
@@ -41,7 +41,7 @@ module _ (code : ℕ → Step) (w : ℕ) (h : Story) (v : Inv code w h) where
       elim (cases_Bool (on m i)) [
         | inl q ↦
             let d = f.come i q in
-            let same : k ≡ n = sym d.its-number ∙ (ap (λ (o : Open). o.number) (one-top (open_joins h) i d.join c.join d.top c.top) ∙ c.its-number) in
+            let same : k ≡ n = sym d.its_number ∙ (ap (λ (o : Open). o.number) (one-top (open_joins h) i d.join c.join d.top c.top) ∙ c.its_number) in
             absurd (both_ways (eqb k n && on m i) z (and_from (eqb k n) (on m i) (eq-eqb k n same) q))
         | inr q ↦
             let r = off-top k m i (open_joins h) c.join q c.top in
@@ -59,16 +59,16 @@ cons-some b bs cs p q = let z : ◌≡◌ {A = ℕ} 0 1 = cc in omega arith
 
 module _ (code : ℕ → Step) (lines w : ℕ) (g : Regions code lines) (near : (b : ℕ) → is_branch (code b) ≡ true → b ≤ lines) (h : Story) (v : Inv code w h) where
   -- A lane that is left behind at a join is held at none.
-  left-free : (n m : ℕ) → Fair-went code w h n m → Kept-back code w h n → (i : ℕ) → still_in (open_joins h) n i ≡ true → on m i ≡ false → Held code h i → ⊥
+  left-free : (n m : ℕ) → FairWent code w h n m → KeptBack code w h n → (i : ℕ) → still_in (open_joins h) n i ≡ true → on m i ≡ false → Held code h i → ⊥
   left-free n m f b i s q c =
       let r = still-top (partings h) n i (open_joins h) v.falls s in
       let same = ap (λ (o : Open). o.number) (one-top (open_joins h) i c.1.join r.0 c.1.top r.1) in
       let low = b.newest c.0 i c.1 in
-      let number = c.1.its-number in
+      let number = c.1.its_number in
       let is : c.0 ≡ n = omega (arith, r.2) in
-      both_ways (on m i) q (f.together i (subst (λ (k : ℕ). Has-come code h k i) is c.1))
+      both_ways (on m i) q (f.together i (subst (λ (k : ℕ). HasCome code h k i) is c.1))
 
-  left_behind : (n m : ℕ) → Fair-went code w h n m → (i : ℕ) → still_in (open_joins h) n i ≡ true → on m i ≡ false → LeftBehind code w h i
+  left_behind : (n m : ℕ) → FairWent code w h n m → (i : ℕ) → still_in (open_joins h) n i ≡ true → on m i ≡ false → LeftBehind code w h i
   left_behind n m f i s q =
       elim f.all [
         | inl a ↦ absurd (both_ways (on m i) q (a i s))

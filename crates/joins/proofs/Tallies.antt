@@ -4,7 +4,7 @@ use Rattle.std.proofs.lemmas.Bool.{cases_Bool, cases_eq, cond-true, cond-false, 
 use Rattle.masks.specs.Masks.{on}
 use Rattle.code.specs.declared.step.Step.{Step}
 use Rattle.code.specs.Joins.{is_branch, Regions}
-use Rattle.joins.specs.Story.{did, parted, went, passed, Story, partings, Open, leave, open_joins, still_in, Has-come, Fair-went, Happened, parted_with, leaves_by, goes_on, Falls}
+use Rattle.joins.specs.Story.{did, parted, went, passed, Story, partings, Open, leave, open_joins, still_in, HasCome, FairWent, Happened, parted_with, leaves_by, goes_on, Falls}
 use Rattle.joins.proofs.Opens.{still-below, still-apart, still-here}
 use Rattle.joins.proofs.Leaves.{not-still, top-still, apart-still, off-still, on-still}
 use Rattle.joins.proofs.Keeps.{inv-kept}
@@ -31,8 +31,8 @@ still-new o os i f =
       | inr q ↦ still-below o os o.number i q ∙ (not-still o.number o.number i os f (omega arith) ∙ sym q)
     ]
 
-pub come-still : (code : ℕ → Step) (h : Story) (n i : ℕ) → Has-come code h n i → still_in (open_joins h) n i ≡ true
-come-still code h n i c = subst (λ (k : ℕ). still_in (open_joins h) k i ≡ true) c.its-number (top-still (open_joins h) i c.join c.top)
+pub come-still : (code : ℕ → Step) (h : Story) (n i : ℕ) → HasCome code h n i → still_in (open_joins h) n i ≡ true
+come-still code h n i c = subst (λ (k : ℕ). still_in (open_joins h) k i ≡ true) c.its_number (top-still (open_joins h) i c.join c.top)
 
 -- What the tally says of a lane and a join.
 Tally : Story → ℕ → ℕ → Type 0
@@ -71,7 +71,7 @@ tally-leaves h k m n i a b c t =
     let z : bit (still_in (open_joins h) n i) ≡ 1 = ap bit c in
     omega arith
 
-tally-went : (code : ℕ → Step) (w : ℕ) (h : Story) (k m n i : ℕ) → Falls (partings h) (open_joins h) → Fair-went code w h k m → Tally h n i → Tally (went k m ∷ h) n i
+tally-went : (code : ℕ → Step) (w : ℕ) (h : Story) (k m n i : ℕ) → Falls (partings h) (open_joins h) → FairWent code w h k m → Tally h n i → Tally (went k m ∷ h) n i
 tally-went code w h k m n i f r t =
     elim (cases_Bool (on m i)) [
       | inl q ↦ elim (cases_eq k n) [

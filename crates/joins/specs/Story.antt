@@ -108,55 +108,55 @@ is_barrier End = false
 
 module _ (code : ℕ → Step) where
   -- Lane i has come to join n: that is the newest join that has it, and it stands where the lanes of that branch join.
-  pub record Has-come (h : Story) (n i : ℕ) : Type 0 where
+  pub record HasCome (h : Story) (n i : ℕ) : Type 0 where
     pub join : Open
     pub top : topmost (open_joins h) i ≡ Some join
-    pub its-number : join.number ≡ n
+    pub its_number : join.number ≡ n
     pub there : JoinsAt code join.branch (place h i)
 
   -- Lane i is held at a join that it has come to: it does nothing until it goes on from there.
   abbrev pub Held : Story → ℕ → Type 0
-  Held h i = (n : ℕ) × Has-come h n i
+  Held h i = (n : ℕ) × HasCome h n i
 
   -- Lane i could do a line.
-  pub record Could-step (h : Story) (i : ℕ) : Type 0 where
+  pub record CouldStep (h : Story) (i : ℕ) : Type 0 where
     pub act : is_act_spec (code (place h i)) ≡ true
     pub free : Held h i → ⊥
 
   -- Lane i, one of the first w, could do the line at entry `line`, where it stands, and be sent to entry r by it.
-  pub record Could-do (w : ℕ) (h : Story) (line i r : ℕ) : Type 0 where
+  pub record CouldDo (w : ℕ) (h : Story) (line i r : ℕ) : Type 0 where
     pub within : i < w
     pub stands : place h i ≡ line
-    pub could : Could-step h i
+    pub could : CouldStep h i
     pub leads : Leads code line r
 
   -- The lanes in the mask, of which there is one, do the line together.
-  pub record Do-line (w : ℕ) (h : Story) (mask line : ℕ) (to : ℕ → ℕ) : Type 0 where
+  pub record DoLine (w : ℕ) (h : Story) (mask line : ℕ) (to : ℕ → ℕ) : Type 0 where
     pub some : (i : ℕ) × (on mask i ≡ true)
-    pub each : (i : ℕ) → on mask i ≡ true → Could-do w h line i (to i)
+    pub each : (i : ℕ) → on mask i ≡ true → CouldDo w h line i (to i)
 
   -- No join is opened where the line is no branch, or a while which the lanes are in already: one join serves all of its rounds.
-  pub record Fair-did (w : ℕ) (h : Story) (mask line : ℕ) (to : ℕ → ℕ) : Type 0 where
-    pub lanes : Do-line w h mask line to
+  pub record FairDid (w : ℕ) (h : Story) (mask line : ℕ) (to : ℕ → ℕ) : Type 0 where
+    pub lanes : DoLine w h mask line to
     pub again : is_branch (code line) ≡ true → (is_loop (code line) ≡ true) × ((i : ℕ) → on mask i ≡ true → OwnJoin h line i)
 
   -- A join is opened at every if, and at a while that the lanes come to from outside.
-  pub record Fair-parted (w : ℕ) (h : Story) (mask line : ℕ) (to : ℕ → ℕ) : Type 0 where
-    pub lanes : Do-line w h mask line to
+  pub record FairParted (w : ℕ) (h : Story) (mask line : ℕ) (to : ℕ → ℕ) : Type 0 where
+    pub lanes : DoLine w h mask line to
     pub branch : is_branch (code line) ≡ true
     pub anew : is_loop (code line) ≡ true → (i : ℕ) → on mask i ≡ true → OwnJoin h line i → ⊥
 
   -- Lanes may go on from join n before all have come: no lane of the row could do a line, and none is held at a newer join.
-  pub record Kept-back (w : ℕ) (h : Story) (n : ℕ) : Type 0 where
-    pub still : (i : ℕ) → i < w → Could-step h i → ⊥
-    pub newest : (k i : ℕ) → Has-come h k i → k ≤ n
+  pub record KeptBack (w : ℕ) (h : Story) (n : ℕ) : Type 0 where
+    pub still : (i : ℕ) → i < w → CouldStep h i → ⊥
+    pub newest : (k i : ℕ) → HasCome h k i → k ≤ n
 
   -- All lanes that have come to join n go on from it, together, and these are all that it has, unless others are kept back.
-  pub record Fair-went (w : ℕ) (h : Story) (n mask : ℕ) : Type 0 where
+  pub record FairWent (w : ℕ) (h : Story) (n mask : ℕ) : Type 0 where
     pub some : (i : ℕ) × (on mask i ≡ true)
-    pub come : (i : ℕ) → on mask i ≡ true → Has-come h n i
-    pub together : (i : ℕ) → Has-come h n i → on mask i ≡ true
-    pub all : ((i : ℕ) → still_in (open_joins h) n i ≡ true → on mask i ≡ true) ⊎ Kept-back w h n
+    pub come : (i : ℕ) → on mask i ≡ true → HasCome h n i
+    pub together : (i : ℕ) → HasCome h n i → on mask i ≡ true
+    pub all : ((i : ℕ) → still_in (open_joins h) n i ≡ true → on mask i ≡ true) ⊎ KeptBack w h n
 
   -- Lane i waits at a barrier and is not held, and goes to entry r behind it.
   pub record Passes (h : Story) (i r : ℕ) : Type 0 where
@@ -166,9 +166,9 @@ module _ (code : ℕ → Step) where
 
   -- What must be so where the event happens after the story, in a row of w lanes.
   abbrev pub Fair : ℕ → Story → Event → Type 0
-  Fair w h (did mask line to) = Fair-did w h mask line to
-  Fair w h (parted mask line to) = Fair-parted w h mask line to
-  Fair w h (went n mask) = Fair-went w h n mask
+  Fair w h (did mask line to) = FairDid w h mask line to
+  Fair w h (parted mask line to) = FairParted w h mask line to
+  Fair w h (went n mask) = FairWent w h n mask
   Fair w h (passed to) = (i : ℕ) → i < w → Passes h i (to i)
 
   -- Every event of the story was fair after those before it.
@@ -216,18 +216,18 @@ pub record Sound (code : ℕ → Step) (w : ℕ) (o : Open) : Type 0 where
 pub record LeftBehind (code : ℕ → Step) (w : ℕ) (h : Story) (i : ℕ) : Type 0 where
   pub waits : is_barrier (code (place h i)) ≡ true
   pub free : Held code h i → ⊥
-  pub still : (j : ℕ) → j < w → Could-step code h j → ⊥
+  pub still : (j : ℕ) → j < w → CouldStep code h j → ⊥
 
 -- What is so of the joins of a story that happened, at any time.
 pub record Kept (code : ℕ → Step) (w : ℕ) (h : Story) : Type 0 where
   -- a lane went on from a join once if it was in the mask there and has gone on, else never
   pub tally : (n i : ℕ) → goes_on h n i + cond (still_in (open_joins h) n i) 1 0 ≡ cond (parted_with h n i) 1 0
   -- only lanes that were in the mask come to a join, and none that has gone on from it comes again
-  pub comes : (n i : ℕ) → Has-come code h n i → (parted_with h n i ≡ true) × (goes_on h n i ≡ 0)
+  pub comes : (n i : ℕ) → HasCome code h n i → (parted_with h n i ≡ true) × (goes_on h n i ≡ 0)
   -- a lane that has come to a join stays there until it goes on from it
-  pub stays : (e : Event) → Fair code w h e → (n i : ℕ) → Has-come code h n i → leaves_by e n i ≡ false → Has-come code (e ∷ h) n i
+  pub stays : (e : Event) → Fair code w h e → (n i : ℕ) → HasCome code h n i → leaves_by e n i ≡ false → HasCome code (e ∷ h) n i
   -- if a lane is left behind where others go on from its join, it waits at a barrier, and no lane of the row could do a line
-  pub left : (n mask : ℕ) → Fair-went code w h n mask → (i : ℕ) → still_in (open_joins h) n i ≡ true → on mask i ≡ false → LeftBehind code w h i
+  pub left : (n mask : ℕ) → FairWent code w h n mask → (i : ℕ) → still_in (open_joins h) n i ≡ true → on mask i ≡ false → LeftBehind code w h i
   -- when all lanes have ended no join is open, and every lane went on once from each join at which it was in the mask, and from no other
   pub at_end : Over code w h → (open_joins h ≡ []) × ((n i : ℕ) → goes_on h n i ≡ cond (parted_with h n i) 1 0)
   -- a lane is in 16 joins at most, and so many are open for each lane at most

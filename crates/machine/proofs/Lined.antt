@@ -26,7 +26,7 @@ use Rattle.machine.specs.Line.{on, row_turns, Loaded, Coding, Masked, LineDone}
 use Rattle.machine.specs.Prepare.{second_at, ReadySteps}
 use Rattle.machine.specs.Masks.{ReadyRow, RowDid, RowOutcome, Ends}
 use Rattle.machine.specs.Plans.{plan_of_spec, Worked, SecondReady, SecondWorked, RowIn, Led, LineOutcome}
-use Rattle.machine.proofs.Planned.{plan-fits, plan-goes, plan-step, first-ready, second-ready, no-plan, next-is, last_end, Second}
+use Rattle.machine.proofs.Planned.{plan-fits, plan-goes, plan-step, first-ready, second-ready, no-plan, next_is, last_end, Second}
 use Rattle.machine.proofs.Preparing.{entry-there}
 use Rattle.machine.proofs.Leading.{led-next, led-goes, led-sent, plan-sends}
 
@@ -107,7 +107,7 @@ module _ (z : Sizes) (at : ℕ → Body) (words : List ℕ) (lines : ℕ) (ls cs
     ready-row p xs ys e w u i h o =
         let hl = m.there i h o in
         subst (λ (n : ℕ). NextIs at (value (own_of z ls g (start + i)) (start + i) g z.lanes) p.todo (get_or xs i 0) (get_or ys i 0) (at n)) (sym (m.stands i h o))
-        (next-is (Named ns) text at z.owns (value (own_of z ls g (start + i)) (start + i) g z.lanes) (get_or xs i 0) (get_or ys i 0) (step_at words lines entry) p (at entry) e (l.coded.does entry m.within)
+        (next_is (Named ns) text at z.owns (value (own_of z ls g (start + i)) (start + i) g z.lanes) (get_or xs i 0) (get_or ys i 0) (step_at words lines entry) p (at entry) e (l.coded.does entry m.within)
         (λ f st. w ns l.names l.distinct (le_of_eq l.owned) f st i h hl) (second-of xs ys i h hl p.todo p.second u))
 
     stops : at lines ≡ end

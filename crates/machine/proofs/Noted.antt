@@ -120,13 +120,13 @@ module _ (z : Sizes) (at : ℕ → Body) (d : Grid) (ts : List Turn) (ls cs ks l
     noted-kept ks' (none, kept) =
         record { grid = grid-is (Touched s) k; kept = rw marks-are kept; no_race = rw marks-are (calm_more (marked z.lanes d ts) _ k.sofar.no_race none); none_wrong = right-now (Touched s) k refl }
 
-    abbrev pub After-race : Race → Type 0
-    After-race r = (most : ℕ) → Shows most z.lanes d (ts ++ (of g l ∷ [])) (races (first_mark r) (second_mark r))
+    abbrev pub AfterRace : Race → Type 0
+    AfterRace r = (most : ℕ) → Shows most z.lanes d (ts ++ (of g l ∷ [])) (races (first_mark r) (second_mark r))
 
     pub noted-raced : (ks' : List ℕ) (f : Found) → whole.Touched (layout z) s.place s.cell (marked z.lanes d ts) ks ks' who s.wrote (Some f) →
-        After-race (paired_of s.place s.cell f (record { who = who; wrote = s.wrote }))
+        AfterRace (paired_of s.place s.cell f (record { who = who; wrote = s.wrote }))
     unfolding told_first
     noted-raced ks' f (among, raced, same) =
-        cond_both (ltb f.who.group who.group || (eqb f.who.group who.group && ltb f.who.lane who.lane)) _ _ After-race
+        cond_both (ltb f.who.group who.group || (eqb f.who.group who.group && ltb f.who.lane who.lane)) _ _ AfterRace
         (λ e most. shows-earlier most z.lanes d (ts ++ (of g l ∷ [])) (marked z.lanes d ts) _ _ marks-are among raced e)
         (λ e most. shows_later most z.lanes d (ts ++ (of g l ∷ [])) (marked z.lanes d ts) _ _ marks-are among raced e)

@@ -82,16 +82,16 @@ module _ (z : Sizes) (ls cs ks : List ℕ) (g l stop : ℕ) (xs ys : List ℕ) (
             (two-more z g (128 + k) l (λ i. get_or xs i 0) (λ _. next) n ls (omega arith) (omega arith) hn)),
       )
 
-  pub branch-part : (so not n : ℕ) → l + n ≤ z.lanes →
+  pub branch_part : (so not n : ℕ) → l + n ≤ z.lanes →
       LanesDid z ls cs ks g l stop (Branch so not) xs ys n (slot_row z g 0 l (λ i. cond (eqb (get_or xs i 0) 0) not so) n ls) cs ks
   unfolding LanesDid
-  branch-part so not zero hn = (row_zero z g 0 l _ ls, refl, refl)
-  branch-part so not (suc n) hn =
+  branch_part so not zero hn = (row_zero z g 0 l _ ls, refl, refl)
+  branch_part so not (suc n) hn =
       let la : List ℕ = slot_row z g 0 l (λ i. cond (eqb (get_or xs i 0) 0) not so) n ls in (
         la,
         cs,
         ks,
-        branch-part so not n (omega arith),
+        branch_part so not n (omega arith),
         quiet-did z la cs ks _ g (l + n) stop (Branch so not) (get_or xs n 0) (get_or ys n 0) lent.sized hg (omega arith) room
             (done-branch z la cs g (l + n) stop (still-lent la (row-long z g 0 l _ n ls)) hg (omega arith) _ so not (get_or xs n 0) (get_or ys n 0) _ refl
             (one_more z g 0 l (λ i. cond (eqb (get_or xs i 0) 0) not so) n ls)),

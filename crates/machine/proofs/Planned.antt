@@ -99,21 +99,21 @@ module _ (N : ℕ → List ℕ → Type 0) (text : List ℕ) (at : ℕ → Body)
   abbrev Follows : Body → Plan → Type 0
   Follows b p = ((e : Expr) → Stands N text p.first e → c ≡ val e) → Second p.second p.todo → NextIs at val p.todo c v b
 
-  pub next-is : (s : Step) (p : Plan) (b : Body) → plan_of_spec owns s ≡ Some p → Does N text at s b → Follows b p
-  next-is (Put k x i) p b e (f, st, is) = let q = tested _ _ p e in subst (Follows b) q.1 (λ w u. (f, is, w f st))
-  next-is (Read true k x i) p b e (f, st, is) = let q = tested _ _ p e in subst (Follows b) q.1 (λ w u. (f, is, w f st))
-  next-is (Read false k x i) p b e (f, st, is) = let q = tested _ _ p e in subst (Follows b) q.1 (λ w u. (f, is, w f st))
-  next-is (Write true x y i) p b e (f, h, st, su, is) = subst (Follows b) (some_is _ p e) (λ w u. (f, h, is, w f st, u h su))
-  next-is (Write false x y i) p b e (f, h, st, su, is) = subst (Follows b) (some_is _ p e) (λ w u. (f, h, is, w f st, u h su))
-  next-is (Branch x y n j true) p b e (f, st, here) =
+  pub next_is : (s : Step) (p : Plan) (b : Body) → plan_of_spec owns s ≡ Some p → Does N text at s b → Follows b p
+  next_is (Put k x i) p b e (f, st, is) = let q = tested _ _ p e in subst (Follows b) q.1 (λ w u. (f, is, w f st))
+  next_is (Read true k x i) p b e (f, st, is) = let q = tested _ _ p e in subst (Follows b) q.1 (λ w u. (f, is, w f st))
+  next_is (Read false k x i) p b e (f, st, is) = let q = tested _ _ p e in subst (Follows b) q.1 (λ w u. (f, is, w f st))
+  next_is (Write true x y i) p b e (f, h, st, su, is) = subst (Follows b) (some_is _ p e) (λ w u. (f, h, is, w f st, u h su))
+  next_is (Write false x y i) p b e (f, h, st, su, is) = subst (Follows b) (some_is _ p e) (λ w u. (f, h, is, w f st, u h su))
+  next_is (Branch x y n j true) p b e (f, st, here) =
       subst (Follows b) (some_is _ p e)
       (λ w u. (f, inr (record { inner = here.inner; behind = here.behind; is = here.is; if_so = here.yes; if_not = here.no }), w f st))
-  next-is (Branch x y n j false) p b e (f, st, here) =
+  next_is (Branch x y n j false) p b e (f, st, here) =
       subst (Follows b) (some_is _ p e)
       (λ w u. (f, inl (record { first = here.first; second = here.second; behind = here.behind; is = here.is; if_so = here.yes; if_not = here.no }), w f st))
-  next-is (Jump i) p b e d = absurd (none-some p e)
-  next-is (Barrier i) p b e d = absurd (none-some p e)
-  next-is End p b e d = absurd (none-some p e)
+  next_is (Jump i) p b e d = absurd (none-some p e)
+  next_is (Barrier i) p b e d = absurd (none-some p e)
+  next_is End p b e d = absurd (none-some p e)
 
 -- behind the last entry nothing is left
 pub last_end : (N : ℕ → List ℕ → Type 0) (text : List ℕ) (at : ℕ → Body) (words : List ℕ) (lines : ℕ) (b : Body) → Does N text at (step_at words lines lines) b → b ≡ end

@@ -38,9 +38,9 @@ module _ (z : Sizes) (steps : List ℕ) (lines g l : ℕ) (ls : List ℕ) (entry
     grid = λ at cs k old. refl;
   }
 
-pub line-within : (z : Sizes) (lines g l : ℕ) (ls : List ℕ) → g < z.groups → l < z.lanes → Lined z (suc lines) ls → line_at z ls g l ≤ lines
+pub line_within : (z : Sizes) (lines g l : ℕ) (ls : List ℕ) → g < z.groups → l < z.lanes → Lined z (suc lines) ls → line_at z ls g l ≤ lines
 unfolding Lined
-line-within z lines g l ls hg hl old = let h = old g l hg hl in omega arith
+line_within z lines g l ls hg hl old = let h = old g l hg hl in omega arith
 
 -- at a barrier that is no jump, what is behind it is left at the next entry, and there the step sends
 abbrev pub Bars : (ℕ → Body) → Step → ℕ → ℕ → Type 0
@@ -64,7 +64,7 @@ pub waits-next : (z : Sizes) (at : ℕ → Body) (steps : List ℕ) (lines g l :
     Bars at (step_at steps lines (line_at z ls g l)) lines (line_at z ls g l)
 unfolding Straight
 waits-next z at steps lines g l ls hg hl k b =
-    let i = line_at z ls g l in let h = line-within z lines g l ls hg hl k.lined in
+    let i = line_at z ls g l in let h = line_within z lines g l ls hg hl k.lined in
     at_barrier-next (Named k.ns) k.text k.owns lines at (step_at steps lines) i (step_at steps lines i) (k.straight g l hg hl) (k.coded.does i h) (k.coded.goes i h) (k.coded.onward i h) b
 
 -- a group's lanes, one after the other

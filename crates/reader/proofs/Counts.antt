@@ -3,7 +3,7 @@ use Rattle.std.proofs.Common.{◌≡◌, ℕ, zero, suc, ◌+◌, ◌-◌, ◌<�
 use Rattle.std.proofs.lemmas.Bool.{and_parts, lt-ltb, cases_Bool}
 use Rattle.std.proofs.lemmas.Bool.Decides.{nat_tests}
 use Rattle.lanes.specs.Syntax.{Expr, fixed, var, lane, group, lanes, plus, minus, times, over, rest_of, less, same}
-use Rattle.grammar.specs.Spelling.{letter, digit, word_byte, each_byte, IsName, IsNumber, infix_of, Spells-expr}
+use Rattle.grammar.specs.Spelling.{letter, digit, word_byte, each_byte, IsName, IsNumber, infix_of, SpellsExpr}
 use Rattle.grammar.specs.Taken.{lines_in, lines_within}
 
 pub lines-append : (u v : List ℕ) → lines_in (u ++ v) ≡ lines_in u + lines_in v
@@ -60,8 +60,8 @@ infix-lines u v t op o p q e =
     )
 
 module _ (N : ℕ → List ℕ → Type 0) (named : (k : ℕ) (u : List ℕ) → N k u → IsName u) where
-  pub expr-lines : (e : Expr) (u : List ℕ) → Spells-expr N e u → lines_in u ≡ 0
-  unfolding Spells-expr lines_in
+  pub expr-lines : (e : Expr) (u : List ℕ) → SpellsExpr N e u → lines_in u ≡ 0
+  unfolding SpellsExpr lines_in
   expr-lines (fixed a) u s = digit-lines u s.bytes
   expr-lines (var k) u s = word-lines u (named k u s).bytes
   expr-lines lane u s = ap lines_in s

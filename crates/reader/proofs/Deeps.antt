@@ -1,13 +1,13 @@
 -- The lines that are read spell a body.
 use Rattle.std.proofs.Common.{◌≡◌, ℕ, zero, suc, ◌+◌, ◌-◌, ◌<◌, ◌≤◌, max, Bool, true, false, cond, ◌&&◌, eqb, leb, ◌≢◌, ◌⊎◌, List, [], ◌∷◌, ◌++◌, length, get_or, drop, Some, None, Ok, Err, codes, Option, Result, sym, refl, ap, ◌∙◌, subst, inl, inr, arith}
-use Rattle.std.proofs.lemmas.List.{append_assoc, length-append}
+use Rattle.std.proofs.lemmas.List.{append_assoc, length_append}
 use Rattle.std.proofs.lemmas.Bool.{leb-true, eqb-false, eqb-true, and_left, cases_eq, eq-eqb}
 use Rattle.lanes.specs.Syntax.{Expr, Body, end, put, read_shared, write_shared, read_all, write_all, barrier, when, while}
 use Rattle.lanes.specs.Told.{ExprFits, BodyFits}
-use Rattle.grammar.specs.Spelling.{word_byte, each_byte, IsName, Spells-expr, Spells-body}
+use Rattle.grammar.specs.Spelling.{word_byte, each_byte, IsName, SpellsExpr, SpellsBody}
 use Rattle.grammar.specs.Taken.{lines_in, lines_within, depth}
 use Rattle.grammar.specs.Refusals.{place_of}
-use Rattle.grammar.specs.Lines.{Some-expr, Line-here}
+use Rattle.grammar.specs.Lines.{SomeExpr, LineHere}
 use Rattle.grammar.specs.Walk.{key_at, key_of, and_then}
 use Rattle.grammar.specs.WalkLine.{line_at}
 use Rattle.grammar.specs.declared.refusals.Refusal.{Refusal}
@@ -20,7 +20,7 @@ use Rattle.grammar.specs.declared.lines.Lined.{Lined}
 use Rattle.grammar.proofs.Complete.{past, part-here}
 use Rattle.grammar.proofs.Walks.{key-written}
 use Rattle.grammar.proofs.Sound.{cond_cases, then-parts, not_err, same_ok}
-use Rattle.grammar.proofs.Soundline.{line-sound}
+use Rattle.grammar.proofs.Soundline.{line_sound}
 use Rattle.reader.specs.Blocks.{opens, kind_of_spec, is_else_spec, too_many, next_at, must_end_spec, must_end_as, must_loop_spec, must_loop_as, by_kind, block_at}
 use Rattle.reader.specs.declared.blocks.Ending.{Ending}
 use Rattle.reader.specs.declared.blocks.Ending.TheVariants.{Text, Else, End}
@@ -43,7 +43,7 @@ module _ (find : List ℕ → Option ℕ) (text : List ℕ) (N : ℕ → List �
   pub record Block (deep left i : ℕ) (some : Bool) (s : Stop) : Type 0 where
     pub body : Body
     pub bytes : List ℕ
-    pub spells : Spells-body N body bytes
+    pub spells : SpellsBody N body bytes
     pub fits : BodyFits o body
     pub shallow : depth body ≤ deep
     pub here : drop i text ≡ bytes ++ drop s.pos text
@@ -56,7 +56,7 @@ module _ (find : List ℕ → Option ℕ) (text : List ℕ) (N : ℕ → List �
   record Plainly (i n : ℕ) : Type 0 where
     make : Body → Body
     bytes : List ℕ
-    spells : (b : Body) (t : List ℕ) → Spells-body N b t → Spells-body N (make b) (bytes ++ (10 ∷ t))
+    spells : (b : Body) (t : List ℕ) → SpellsBody N b t → SpellsBody N (make b) (bytes ++ (10 ∷ t))
     fits : (b : Body) → BodyFits o b → BodyFits o (make b)
     flat : (b : Body) → depth (make b) ≡ depth b
     more : (b : Body) → make b ≢ end
@@ -68,7 +68,7 @@ module _ (find : List ℕ → Option ℕ) (text : List ℕ) (N : ℕ → List �
   record Opened (word : List ℕ) (i n : ℕ) : Type 0 where
     expr : Expr
     bytes : List ℕ
-    spells : Spells-expr N expr bytes
+    spells : SpellsExpr N expr bytes
     fits : ExprFits o expr
     here : drop i text ≡ word ++ (bytes ++ (10 ∷ drop n text))
     free : lines_in (word ++ bytes) ≡ 0
@@ -77,111 +77,111 @@ module _ (find : List ℕ → Option ℕ) (text : List ℕ) (N : ℕ → List �
   name_free : (k : ℕ) (a : List ℕ) → N k a → lines_in a ≡ 0
   name_free k a n = word-lines a (named k a n).bytes
 
-  expr-free : (u : List ℕ) → Some-expr N o text u → lines_in u ≡ 0
-  expr-free u s = expr-lines N named s.0 u s.1
+  expr_free : (u : List ℕ) → SomeExpr N o text u → lines_in u ≡ 0
+  expr_free u s = expr-lines N named s.0 u s.1
 
-  rest-is : (i n : ℕ) (w z : List ℕ) → drop i text ≡ w ++ (10 ∷ z) → n ≡ i + (length w + 1) → drop i text ≡ w ++ (10 ∷ drop n text)
-  rest-is i n w z e q =
-      let p : drop (i + (length w + 1)) text ≡ z = ap (λ m. drop m text) (omega (arith, length-append w (10 ∷ []))) ∙ past text i (w ++ (10 ∷ [])) z (e ∙ sym (append_assoc w (10 ∷ []) z)) in
+  rest_is : (i n : ℕ) (w z : List ℕ) → drop i text ≡ w ++ (10 ∷ z) → n ≡ i + (length w + 1) → drop i text ≡ w ++ (10 ∷ drop n text)
+  rest_is i n w z e q =
+      let p : drop (i + (length w + 1)) text ≡ z = ap (λ m. drop m text) (omega (arith, length_append w (10 ∷ []))) ∙ past text i (w ++ (10 ∷ [])) z (e ∙ sym (append_assoc w (10 ∷ []) z)) in
       e ∙ ap (λ t. w ++ (10 ∷ t)) (sym p ∙ ap (λ m. drop m text) (sym q))
 
-  two-parts : (a c u : List ℕ) (z : List ℕ) → a ++ (c ++ (u ++ z)) ≡ (a ++ (c ++ u)) ++ z
-  two-parts a c u z = sym (append_assoc a (c ++ u) z ∙ ap (λ t. a ++ t) (append_assoc c u z))
+  two_parts : (a c u : List ℕ) (z : List ℕ) → a ++ (c ++ (u ++ z)) ≡ (a ++ (c ++ u)) ++ z
+  two_parts a c u z = sym (append_assoc a (c ++ u) z ∙ ap (λ t. a ++ t) (append_assoc c u z))
 
-  free-two : (a c u : List ℕ) → lines_in a ≡ 0 → lines_in c ≡ 0 → lines_in u ≡ 0 → lines_in (a ++ (c ++ u)) ≡ 0
-  free-two a c u p q r = omega (arith, lines-append a (c ++ u), lines-append c u, p, q, r)
+  free_two : (a c u : List ℕ) → lines_in a ≡ 0 → lines_in c ≡ 0 → lines_in u ≡ 0 → lines_in (a ++ (c ++ u)) ≡ 0
+  free_two a c u p q r = omega (arith, lines-append a (c ++ u), lines-append c u, p, q, r)
 
-  long-two : (a c u : List ℕ) → length (a ++ (c ++ u)) ≡ length a + (length c + length u)
-  long-two a c u = omega (arith, length-append a (c ++ u), length-append c u)
+  long_two : (a c u : List ℕ) → length (a ++ (c ++ u)) ≡ length a + (length c + length u)
+  long_two a c u = omega (arith, length_append a (c ++ u), length_append c u)
 
-  lit-free : lines_in (codes " = ") ≡ 0
+  lit_free : lines_in (codes " = ") ≡ 0
   unfolding lines_in
-  lit-free = refl
+  lit_free = refl
 
-  lit-cell : lines_in (codes " = cell ") ≡ 0
+  lit_cell : lines_in (codes " = cell ") ≡ 0
   unfolding lines_in
-  lit-cell = refl
+  lit_cell = refl
 
-  lit-field : lines_in (codes " = field ") ≡ 0
+  lit_field : lines_in (codes " = field ") ≡ 0
   unfolding lines_in
-  lit-field = refl
+  lit_field = refl
 
-  lit-c : lines_in (codes "cell ") ≡ 0
+  lit_c : lines_in (codes "cell ") ≡ 0
   unfolding lines_in
-  lit-c = refl
+  lit_c = refl
 
-  lit-f : lines_in (codes "field ") ≡ 0
+  lit_f : lines_in (codes "field ") ≡ 0
   unfolding lines_in
-  lit-f = refl
+  lit_f = refl
 
-  lit-b : lines_in (codes "barrier") ≡ 0
+  lit_b : lines_in (codes "barrier") ≡ 0
   unfolding lines_in
-  lit-b = refl
+  lit_b = refl
 
-  lit-if : lines_in (codes "if ") ≡ 0
+  lit_if : lines_in (codes "if ") ≡ 0
   unfolding lines_in
-  lit-if = refl
+  lit_if = refl
 
-  lit-while : lines_in (codes "while ") ≡ 0
+  lit_while : lines_in (codes "while ") ≡ 0
   unfolding lines_in
-  lit-while = refl
+  lit_while = refl
 
-  assigned : (mk : ℕ → Expr → Body → Body) (c : List ℕ) (i n k : ℕ) (a u z : List ℕ) → lines_in c ≡ 0 → N k a → (s : Some-expr N o text u)
-      → ((b : Body) (t : List ℕ) → Spells-body N b t → Spells-body N (mk k s.0 b) (a ++ (c ++ (u ++ (10 ∷ t)))))
+  assigned : (mk : ℕ → Expr → Body → Body) (c : List ℕ) (i n k : ℕ) (a u z : List ℕ) → lines_in c ≡ 0 → N k a → (s : SomeExpr N o text u)
+      → ((b : Body) (t : List ℕ) → SpellsBody N b t → SpellsBody N (mk k s.0 b) (a ++ (c ++ (u ++ (10 ∷ t)))))
       → ((b : Body) → BodyFits o b → BodyFits o (mk k s.0 b)) → ((b : Body) → depth (mk k s.0 b) ≡ depth b) → ((b : Body) → mk k s.0 b ≢ end)
       → drop i text ≡ a ++ (c ++ (u ++ (10 ∷ z))) → n ≡ i + (length a + (length c + (length u + 1))) → n ≤ i + 1025 → Plainly i n
   assigned mk c i n k a u z lc nk s sp ft fl mo e q h =
-      let len = long-two a c u in
+      let len = long_two a c u in
       record {
         make = mk k s.0;
         bytes = a ++ (c ++ u);
-        spells = λ b t x. subst (Spells-body N (mk k s.0 b)) (two-parts a c u (10 ∷ t)) (sp b t x);
+        spells = λ b t x. subst (SpellsBody N (mk k s.0 b)) (two_parts a c u (10 ∷ t)) (sp b t x);
         fits = ft;
         flat = fl;
         more = mo;
-        here = rest-is i n (a ++ (c ++ u)) z (e ∙ two-parts a c u (10 ∷ z)) (omega (arith, len, q));
-        free = free-two a c u (name_free k a nk) lc (expr-free u s);
+        here = rest_is i n (a ++ (c ++ u)) z (e ∙ two_parts a c u (10 ∷ z)) (omega (arith, len, q));
+        free = free_two a c u (name_free k a nk) lc (expr_free u s);
         few = omega (arith, len, q, h);
       }
 
-  written : (mk : Expr → Expr → Body → Body) (c : List ℕ) (i n : ℕ) (u w z : List ℕ) → lines_in c ≡ 0 → (s : Some-expr N o text u) (t : Some-expr N o text w)
-      → ((b : Body) (y : List ℕ) → Spells-body N b y → Spells-body N (mk s.0 t.0 b) (c ++ (u ++ (codes " = " ++ (w ++ (10 ∷ y))))))
+  written : (mk : Expr → Expr → Body → Body) (c : List ℕ) (i n : ℕ) (u w z : List ℕ) → lines_in c ≡ 0 → (s : SomeExpr N o text u) (t : SomeExpr N o text w)
+      → ((b : Body) (y : List ℕ) → SpellsBody N b y → SpellsBody N (mk s.0 t.0 b) (c ++ (u ++ (codes " = " ++ (w ++ (10 ∷ y))))))
       → ((b : Body) → BodyFits o b → BodyFits o (mk s.0 t.0 b)) → ((b : Body) → depth (mk s.0 t.0 b) ≡ depth b) → ((b : Body) → mk s.0 t.0 b ≢ end)
       → drop i text ≡ c ++ (u ++ (codes " = " ++ (w ++ (10 ∷ z)))) → n ≡ i + (length c + (length u + (3 + (length w + 1)))) → n ≤ i + 1025 → Plainly i n
   written mk c i n u w z lc s t sp ft fl mo e q h =
-      let x : (y : List ℕ) → c ++ (u ++ (codes " = " ++ (w ++ y))) ≡ (c ++ (u ++ (codes " = " ++ w))) ++ y = λ y. ap (λ m. c ++ m) (two-parts u (codes " = ") w y) ∙ sym (append_assoc c (u ++ (codes " = " ++ w)) y) in
-      let len : length (c ++ (u ++ (codes " = " ++ w))) ≡ length c + (length u + (3 + length w)) = omega (arith, length-append c (u ++ (codes " = " ++ w)), long-two u (codes " = ") w) in
+      let x : (y : List ℕ) → c ++ (u ++ (codes " = " ++ (w ++ y))) ≡ (c ++ (u ++ (codes " = " ++ w))) ++ y = λ y. ap (λ m. c ++ m) (two_parts u (codes " = ") w y) ∙ sym (append_assoc c (u ++ (codes " = " ++ w)) y) in
+      let len : length (c ++ (u ++ (codes " = " ++ w))) ≡ length c + (length u + (3 + length w)) = omega (arith, length_append c (u ++ (codes " = " ++ w)), long_two u (codes " = ") w) in
       record {
         make = mk s.0 t.0;
         bytes = c ++ (u ++ (codes " = " ++ w));
-        spells = λ b y v. subst (Spells-body N (mk s.0 t.0 b)) (x (10 ∷ y)) (sp b y v);
+        spells = λ b y v. subst (SpellsBody N (mk s.0 t.0 b)) (x (10 ∷ y)) (sp b y v);
         fits = ft;
         flat = fl;
         more = mo;
-        here = rest-is i n (c ++ (u ++ (codes " = " ++ w))) z (e ∙ x (10 ∷ z)) (omega (arith, len, q));
-        free = omega (arith, lines-append c (u ++ (codes " = " ++ w)), free-two u (codes " = ") w (expr-free u s) lit-free (expr-free w t), lc);
+        here = rest_is i n (c ++ (u ++ (codes " = " ++ w))) z (e ∙ x (10 ∷ z)) (omega (arith, len, q));
+        free = omega (arith, lines-append c (u ++ (codes " = " ++ w)), free_two u (codes " = ") w (expr_free u s) lit_free (expr_free w t), lc);
         few = omega (arith, len, q, h);
       }
 
-  opened : (c : List ℕ) (i n : ℕ) (u z : List ℕ) → lines_in c ≡ 0 → Some-expr N o text u → drop i text ≡ c ++ (u ++ (10 ∷ z)) → n ≡ i + (length c + (length u + 1)) → n ≤ i + 1025 → Opened c i n
+  opened : (c : List ℕ) (i n : ℕ) (u z : List ℕ) → lines_in c ≡ 0 → SomeExpr N o text u → drop i text ≡ c ++ (u ++ (10 ∷ z)) → n ≡ i + (length c + (length u + 1)) → n ≤ i + 1025 → Opened c i n
   opened c i n u z lc s e q h =
-      let len = length-append c u in
+      let len = length_append c u in
       record {
         expr = s.0;
         bytes = u;
         spells = s.1;
         fits = s.2;
-        here = rest-is i n (c ++ u) z (e ∙ sym (append_assoc c u (10 ∷ z))) (omega (arith, len, q)) ∙ append_assoc c u (10 ∷ drop n text);
-        free = omega (arith, lines-append c u, lc, expr-free u s);
+        here = rest_is i n (c ++ u) z (e ∙ sym (append_assoc c u (10 ∷ z))) (omega (arith, len, q)) ∙ append_assoc c u (10 ∷ drop n text);
+        free = omega (arith, lines-append c u, lc, expr_free u s);
         few = omega (arith, len, q, h);
       }
 
-  abbrev Line-says : Kind → ℕ → ℕ → Type 0
-  Line-says Plain i n = Plainly i n
-  Line-says Opens i n = Opened (codes "if ") i n × (opens (key_at text i) ≡ true)
-  Line-says Loops i n = Opened (codes "while ") i n × (opens (key_at text i) ≡ true)
-  Line-says Parts i n = drop i text ≡ codes "else" ++ (10 ∷ drop n text)
-  Line-says Closes i n = drop i text ≡ codes "end" ++ (10 ∷ drop n text)
+  abbrev LineSays : Kind → ℕ → ℕ → Type 0
+  LineSays Plain i n = Plainly i n
+  LineSays Opens i n = Opened (codes "if ") i n × (opens (key_at text i) ≡ true)
+  LineSays Loops i n = Opened (codes "while ") i n × (opens (key_at text i) ≡ true)
+  LineSays Parts i n = drop i text ≡ codes "else" ++ (10 ∷ drop n text)
+  LineSays Closes i n = drop i text ≡ codes "end" ++ (10 ∷ drop n text)
 
   if-opens : (i : ℕ) (z : List ℕ) → drop i text ≡ codes "if" ++ (32 ∷ z) → opens (key_at text i) ≡ true
   unfolding each_byte
@@ -191,18 +191,18 @@ module _ (find : List ℕ → Option ℕ) (text : List ℕ) (N : ℕ → List �
   unfolding each_byte
   while-opens i z e = ap opens (ap key_of (part-here word_byte text i (codes "while") (32 ∷ z) refl refl e) ∙ key-written kw.While)
 
-  line-says : (i : ℕ) (l : Line) (n : ℕ) → Line-here N o text i l n → n ≤ i + 1025 → Line-says (kind_of_spec l) i n
-  unfolding Line-here Spells-body BodyFits depth
+  line-says : (i : ℕ) (l : Line) (n : ℕ) → LineHere N o text i l n → n ≤ i + 1025 → LineSays (kind_of_spec l) i n
+  unfolding LineHere SpellsBody BodyFits depth
   line-says i (Put k x) n (a, u, z, nk, s, ex, en, e) h =
-      assigned put (codes " = ") i n k a u z lit-free nk s (λ b t v. (a, u, t, nk, s.1, v, refl)) (λ b f. (room k a nk, s.2, f)) (λ b. refl) (λ b q. let y : ◌≡◌ {A = ℕ} 0 1 = cc in omega arith) e (omega (arith, ex, en)) h
+      assigned put (codes " = ") i n k a u z lit_free nk s (λ b t v. (a, u, t, nk, s.1, v, refl)) (λ b f. (room k a nk, s.2, f)) (λ b. refl) (λ b q. let y : ◌≡◌ {A = ℕ} 0 1 = cc in omega arith) e (omega (arith, ex, en)) h
   line-says i (Read false k x) n (a, u, z, nk, s, ex, en, e) h =
-      assigned read_shared (codes " = cell ") i n k a u z lit-cell nk s (λ b t v. (a, u, t, nk, s.1, v, refl)) (λ b f. (room k a nk, s.2, f)) (λ b. refl) (λ b q. let y : ◌≡◌ {A = ℕ} 0 1 = cc in omega arith) e (omega (arith, ex, en)) h
+      assigned read_shared (codes " = cell ") i n k a u z lit_cell nk s (λ b t v. (a, u, t, nk, s.1, v, refl)) (λ b f. (room k a nk, s.2, f)) (λ b. refl) (λ b q. let y : ◌≡◌ {A = ℕ} 0 1 = cc in omega arith) e (omega (arith, ex, en)) h
   line-says i (Read true k x) n (a, u, z, nk, s, ex, en, e) h =
-      assigned read_all (codes " = field ") i n k a u z lit-field nk s (λ b t v. (a, u, t, nk, s.1, v, refl)) (λ b f. (room k a nk, s.2, f)) (λ b. refl) (λ b q. let y : ◌≡◌ {A = ℕ} 0 1 = cc in omega arith) e (omega (arith, ex, en)) h
+      assigned read_all (codes " = field ") i n k a u z lit_field nk s (λ b t v. (a, u, t, nk, s.1, v, refl)) (λ b f. (room k a nk, s.2, f)) (λ b. refl) (λ b q. let y : ◌≡◌ {A = ℕ} 0 1 = cc in omega arith) e (omega (arith, ex, en)) h
   line-says i (Write false p v) n (u, w, z, s, t, ep, ev, en, e) h =
-      written write_shared (codes "cell ") i n u w z lit-c s t (λ b y x. (u, w, y, s.1, t.1, x, refl)) (λ b f. (s.2, t.2, f)) (λ b. refl) (λ b q. let y : ◌≡◌ {A = ℕ} 0 1 = cc in omega arith) e (omega (arith, ep, ev, en)) h
+      written write_shared (codes "cell ") i n u w z lit_c s t (λ b y x. (u, w, y, s.1, t.1, x, refl)) (λ b f. (s.2, t.2, f)) (λ b. refl) (λ b q. let y : ◌≡◌ {A = ℕ} 0 1 = cc in omega arith) e (omega (arith, ep, ev, en)) h
   line-says i (Write true p v) n (u, w, z, s, t, ep, ev, en, e) h =
-      written write_all (codes "field ") i n u w z lit-f s t (λ b y x. (u, w, y, s.1, t.1, x, refl)) (λ b f. (s.2, t.2, f)) (λ b. refl) (λ b q. let y : ◌≡◌ {A = ℕ} 0 1 = cc in omega arith) e (omega (arith, ep, ev, en)) h
+      written write_all (codes "field ") i n u w z lit_f s t (λ b y x. (u, w, y, s.1, t.1, x, refl)) (λ b f. (s.2, t.2, f)) (λ b. refl) (λ b q. let y : ◌≡◌ {A = ℕ} 0 1 = cc in omega arith) e (omega (arith, ep, ev, en)) h
   line-says i Barrier n (z, en, e) h =
       record {
         make = barrier;
@@ -211,17 +211,17 @@ module _ (find : List ℕ → Option ℕ) (text : List ℕ) (N : ℕ → List �
         fits = λ b f. f;
         flat = λ b. refl;
         more = λ b q. let y : ◌≡◌ {A = ℕ} 0 1 = cc in omega arith;
-        here = rest-is i n (codes "barrier") z e (omega (arith, en));
-        free = lit-b;
+        here = rest_is i n (codes "barrier") z e (omega (arith, en));
+        free = lit_b;
         few = omega arith;
       }
-  line-says i (If x) n (u, z, s, ex, en, e) h = (opened (codes "if ") i n u z lit-if s e (omega (arith, ex, en)) h, if-opens i (u ++ (10 ∷ z)) e)
-  line-says i line.Else n (z, en, e) h = rest-is i n (codes "else") z e (omega (arith, en))
-  line-says i line.End n (z, en, e) h = rest-is i n (codes "end") z e (omega (arith, en))
-  line-says i (While x) n (u, z, s, ex, en, e) h = (opened (codes "while ") i n u z lit-while s e (omega (arith, ex, en)) h, while-opens i (u ++ (10 ∷ z)) e)
+  line-says i (If x) n (u, z, s, ex, en, e) h = (opened (codes "if ") i n u z lit_if s e (omega (arith, ex, en)) h, if-opens i (u ++ (10 ∷ z)) e)
+  line-says i line.Else n (z, en, e) h = rest_is i n (codes "else") z e (omega (arith, en))
+  line-says i line.End n (z, en, e) h = rest_is i n (codes "end") z e (omega (arith, en))
+  line-says i (While x) n (u, z, s, ex, en, e) h = (opened (codes "while ") i n u z lit_while s e (omega (arith, ex, en)) h, while-opens i (u ++ (10 ∷ z)) e)
 
   -- the line that is read next
-  next-says : (deep left i : ℕ) (l : Lined) → next_at find text deep left i ≡ Ok l → (0 < left) × ((eqb deep 0 && opens (key_at text i)) ≡ false) × Line-says (kind_of_spec l.line) i l.next
+  next-says : (deep left i : ℕ) (l : Lined) → next_at find text deep left i ≡ Ok l → (0 < left) × ((eqb deep 0 && opens (key_at text i)) ≡ false) × LineSays (kind_of_spec l.line) i l.next
   unfolding next_at
   next-says deep left i l e =
       elim (cond_cases (eqb left 0) _ _ (Ok l) e) [
@@ -230,7 +230,7 @@ module _ (find : List ℕ → Option ℕ) (text : List ℕ) (N : ℕ → List �
             let n : (left ≡ 0 → ⊥) = eqb-false left 0 p.0 in
             elim (cond_cases (eqb deep 0 && opens (key_at text i)) _ _ (Ok l) p.1) [
               | inl q ↦ absurd (not_err (Deep i) l q.1)
-              | inr q ↦ let s = line-sound find text N o finds i l q.1 in (omega (arith, n), q.0, line-says i l.line l.next s.0 s.1)
+              | inr q ↦ let s = line_sound find text N o finds i l q.1 in (omega (arith, n), q.0, line-says i l.line l.next s.0 s.1)
             ]
       ]
 
@@ -279,14 +279,14 @@ module _ (find : List ℕ → Option ℕ) (text : List ℕ) (N : ℕ → List �
   unfolding lines_in
   end_line i n e = one_line text i n (codes "end") refl (omega arith) e
 
-  else-line : (i n : ℕ) → drop i text ≡ codes "else" ++ (10 ∷ drop n text) → OneLine text i n
+  else_line : (i n : ℕ) → drop i text ≡ codes "else" ++ (10 ∷ drop n text) → OneLine text i n
   unfolding lines_in
-  else-line i n e = one_line text i n (codes "else") refl (omega arith) e
+  else_line i n e = one_line text i n (codes "else") refl (omega arith) e
 
   -- Block's count and short speak of what is behind the ending line
   while-block : (deep left i n : ℕ) (some : Bool) (c s : Stop) → 0 < left → 0 < deep → Opened (codes "while ") i n → Block (deep - 1) (left - 1) n false c → c.ending ≡ End → c.some ≡ true
       → Block deep c.left c.next true s → Block deep left i some s
-  unfolding Spells-body BodyFits depth
+  unfolding SpellsBody BodyFits depth
   while-block deep left i n some c s h d p x g m r =
       let q = one_line text i n (codes "while " ++ p.bytes) p.free p.few (p.here ∙ sym (append_assoc (codes "while ") p.bytes (10 ∷ drop n text))) in
       let y : drop c.pos text ≡ codes "end" ++ (10 ∷ drop c.next text) = subst (λ v. EndsAs v c) g x.ends in
@@ -308,7 +308,7 @@ module _ (find : List ℕ → Option ℕ) (text : List ℕ) (N : ℕ → List �
       }
 
   if-block : (deep left i n : ℕ) (some : Bool) (c s : Stop) → 0 < left → 0 < deep → Opened (codes "if ") i n → Block (deep - 1) (left - 1) n false c → c.ending ≡ End → Block deep c.left c.next true s → Block deep left i some s
-  unfolding Spells-body BodyFits depth
+  unfolding SpellsBody BodyFits depth
   if-block deep left i n some c s h d p x g r =
       let q = one_line text i n (codes "if " ++ p.bytes) p.free p.few (p.here ∙ sym (append_assoc (codes "if ") p.bytes (10 ∷ drop n text))) in
       let y : drop c.pos text ≡ codes "end" ++ (10 ∷ drop c.next text) = subst (λ v. EndsAs v c) g x.ends in
@@ -330,7 +330,7 @@ module _ (find : List ℕ → Option ℕ) (text : List ℕ) (N : ℕ → List �
 
   else-block : (deep left i n : ℕ) (some : Bool) (c w s : Stop) → 0 < left → 0 < deep → Opened (codes "if ") i n → Block (deep - 1) (left - 1) n false c → c.ending ≡ Else
       → Block (deep - 1) c.left c.next false w → w.ending ≡ End → Block deep w.left w.next true s → Block deep left i some s
-  unfolding Spells-body BodyFits depth
+  unfolding SpellsBody BodyFits depth
   else-block deep left i n some c w s h d p x g v k r =
       let q = one_line text i n (codes "if " ++ p.bytes) p.free p.few (p.here ∙ sym (append_assoc (codes "if ") p.bytes (10 ∷ drop n text))) in
       let y : drop c.pos text ≡ codes "else" ++ (10 ∷ drop c.next text) = subst (λ m. EndsAs m c) g x.ends in
@@ -356,8 +356,8 @@ module _ (find : List ℕ → Option ℕ) (text : List ℕ) (N : ℕ → List �
       }
 
   kind-sound : (go : ℕ → ℕ → ℕ → Bool → Result Stop Refusal) → Reader go → (deep left i n : ℕ) (some : Bool) (k : Kind) (s : Stop)
-      → 0 < left → (eqb deep 0 && opens (key_at text i)) ≡ false → Line-says k i n → by_kind go deep left i some k n ≡ Ok s → Block deep left i some s
-  unfolding Spells-body BodyFits depth
+      → 0 < left → (eqb deep 0 && opens (key_at text i)) ≡ false → LineSays k i n → by_kind go deep left i some k n ≡ Ok s → Block deep left i some s
+  unfolding SpellsBody BodyFits depth
   kind-sound go rd deep left i n some Plain s h d p e = plain-block deep left i n some s h p (rd deep (left - 1) n true s e)
   kind-sound go rd deep left i n some Opens s h d p e =
       let a = then-parts (go (deep - 1) (left - 1) n false) _ s e in
@@ -387,7 +387,7 @@ module _ (find : List ℕ → Option ℕ) (text : List ℕ) (N : ℕ → List �
       while-block deep left i n some a.0 s h dd p.0 x f.1 f.2 (subst (λ m. Block deep m.left m.next true s) f.0 r)
   kind-sound go rd deep left i n some Parts s h d p e =
       let q : record { ending = Else; some = some; pos = i; next = n; left = left - 1 } ≡ s = same_ok _ s e in
-      let l = else-line i n p in
+      let l = else_line i n p in
       subst (Block deep left i some) q
       (record { body = end; bytes = []; spells = refl; fits = tt; shallow = omega arith; here = refl; count = omega (arith, l.count, h); short = l.short; ends = p; lines = λ m. inl m })
   kind-sound go rd deep left i n some Closes s h d p e =
@@ -397,7 +397,7 @@ module _ (find : List ℕ → Option ℕ) (text : List ℕ) (N : ℕ → List �
       (record { body = end; bytes = []; spells = refl; fits = tt; shallow = omega arith; here = refl; count = omega (arith, l.count, h); short = l.short; ends = p; lines = λ m. inl m })
 
   pub block-sound : (f deep left i : ℕ) (some : Bool) (s : Stop) → block_at find text f deep left i some ≡ Ok s → Block deep left i some s
-  unfolding block_at Spells-body BodyFits depth
+  unfolding block_at SpellsBody BodyFits depth
   block-sound zero deep left i some s e = absurd (not_err (Shape i) s e)
   block-sound (suc f) deep left i some s e =
       elim (cond_cases (leb (length text) i) _ _ (Ok s) e) [

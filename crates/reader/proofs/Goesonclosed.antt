@@ -3,7 +3,7 @@ use Rattle.std.proofs.Common.{◌≡◌, ℕ, zero, suc, ◌+◌, ◌-◌, ◌<�
 use Rattle.std.proofs.lemmas.List.{append_assoc, append-nil}
 use Rattle.std.proofs.lemmas.Bool.{leb-true, eqb-false, cases_Bool}
 use Rattle.lanes.specs.Syntax.{Expr, Body, end, put, read_shared, write_shared, read_all, write_all, barrier, when, while, followed}
-use Rattle.grammar.specs.Spelling.{IsName, Spells-body, AnyName}
+use Rattle.grammar.specs.Spelling.{IsName, SpellsBody, AnyName}
 use Rattle.grammar.specs.Refusals.{place_of}
 use Rattle.grammar.specs.Runs.{written}
 use Rattle.grammar.specs.Walk.{key_at, and_then}
@@ -19,7 +19,7 @@ use Rattle.grammar.proofs.Complete.{past}
 use Rattle.grammar.proofs.Sound.{cond_cases, not_err, same_ok}
 use Rattle.grammar.proofs.Goesonline.{then-fails}
 use Rattle.grammar.proofs.Goesonlines.{Shaped}
-use Rattle.grammar.proofs.Goesonfront.{Just, Both, Front, Got, front-map, got-map, front-none, front-first, front-second, got-both, longer}
+use Rattle.grammar.proofs.Goesonfront.{Just, Both, Front, Got, front_map, got_map, front_none, front_first, front_second, got_both, longer}
 use Rattle.grammar.proofs.Goesonbegun.{Bodied, HeadOf, LineOf, front-named, front-line, got-line, not-end-barrier, not-end-when, not-end-while}
 use Rattle.reader.specs.Blocks.{opens, next_at, too_many, block_at, by_kind, kind_of_spec, is_else_spec, must_end_spec, must_end_as, must_loop_spec, must_loop_as}
 use Rattle.reader.specs.declared.blocks.Ending.{Ending}
@@ -31,14 +31,14 @@ use Rattle.reader.specs.declared.blocks.Stop.{Stop}
 -- lines, or none
 pub record SomeLines (t : List ℕ) : Type 0 where
   pub lines : Body
-  pub spells : Spells-body AnyName lines t
+  pub spells : SpellsBody AnyName lines t
 
 -- lines behind lines
 two-lists : (a c u v z : List ℕ) → (a ++ (c ++ (u ++ (10 ∷ v)))) ++ z ≡ a ++ (c ++ (u ++ (10 ∷ (v ++ z))))
 two-lists a c u v z = append_assoc a _ z ∙ ap (λ k. a ++ k) (append_assoc c _ z ∙ ap (λ k. c ++ k) (append_assoc u _ z))
 
-join : (b c : Body) (t w : List ℕ) → Spells-body AnyName b t → Spells-body AnyName c w → Spells-body AnyName (followed b c) (t ++ w)
-unfolding Spells-body followed
+join : (b c : Body) (t w : List ℕ) → SpellsBody AnyName b t → SpellsBody AnyName c w → SpellsBody AnyName (followed b c) (t ++ w)
+unfolding SpellsBody followed
 join end c t w s p = rw s p
 join (put k e b) c t w (a, u, v, h, s, r, q) p = (a, u, v ++ w, h, s, join b c v w r p, ap (λ m. m ++ w) q ∙ two-lists a (codes " = ") u v w)
 join (read_shared k e b) c t w (a, u, v, h, s, r, q) p = (a, u, v ++ w, h, s, join b c v w r p, ap (λ m. m ++ w) q ∙ two-lists a (codes " = cell ") u v w)
@@ -123,7 +123,7 @@ abbrev EndLine : List ℕ → Type 0
 EndLine = Just (codes "end\n")
 
 if-whole : (t : List ℕ) → Both IfLines EndLine t → Bodied t
-unfolding Spells-body
+unfolding SpellsBody
 if-whole t b =
     let u : List ℕ = b.one.one.0 in
     let x : List ℕ = b.one.right in
@@ -133,7 +133,7 @@ if-whole t b =
     record { lines = when b.one.one.1.0 b.one.two.lines end end; spells = (u, x, [], [], b.one.one.1.1, b.one.two.spells, inl (refl, refl), refl, q); some = not-end-when _ _ _ _ }
 
 else-whole : (t : List ℕ) → Both ElseLines EndLine t → Bodied t
-unfolding Spells-body
+unfolding SpellsBody
 else-whole t b =
     let i = b.one.one in
     let u : List ℕ = i.one.0 in
@@ -146,7 +146,7 @@ else-whole t b =
     record { lines = when i.one.1.0 i.two.lines o.two.lines end; spells = (u, x, codes "else" ++ (10 ∷ y), [], i.one.1.1, i.two.spells, inr (y, o.two.spells, refl), refl, q); some = not-end-when _ _ _ _ }
 
 while-whole : (t : List ℕ) → Both WhileLines EndLine t → Bodied t
-unfolding Spells-body
+unfolding SpellsBody
 while-whole t b =
     let u : List ℕ = b.one.one.0 in
     let x : List ℕ = b.one.right in
@@ -156,11 +156,11 @@ while-whole t b =
     record { lines = while b.one.one.1.0 b.one.two.lines end; spells = (u, x, [], b.one.one.1.1, b.one.two.spells, b.one.two.some, refl, q); some = not-end-while _ _ _ }
 
 a-barrier : Bodied (codes "barrier\n")
-unfolding Spells-body
+unfolding SpellsBody
 a-barrier = record { lines = barrier end; spells = ([], refl, refl); some = not-end-barrier end }
 
 no_lines : SomeLines []
-unfolding Spells-body
+unfolding SpellsBody
 no_lines = record { lines = end; spells = refl }
 
 module _ (text : List ℕ) (find : List ℕ → Option ℕ) where
@@ -194,15 +194,15 @@ module _ (text : List ℕ) (find : List ℕ → Option ℕ) where
 
 module _ (text : List ℕ) (find : List ℕ → Option ℕ) (o : ℕ) (finds : (k : ℕ) (u : List ℕ) → find u ≡ Some k → AnyName k u × (k < o)) where
   -- how a block ended
-  abbrev pub Ended-as : Ending → Stop → Type 0
-  Ended-as Text s = length text ≤ s.pos
-  Ended-as Else s = Got text (Just (codes "else\n")) s.pos s.next
-  Ended-as End s = Got text EndLine s.pos s.next
+  abbrev pub EndedAs : Ending → Stop → Type 0
+  EndedAs Text s = length text ≤ s.pos
+  EndedAs Else s = Got text (Just (codes "else\n")) s.pos s.next
+  EndedAs End s = Got text EndLine s.pos s.next
 
   pub record Gone (i : ℕ) (some : Bool) (left : ℕ) (s : Stop) : Type 0 where
     pub lines : Got text SomeLines i s.pos
     pub had : s.some ≡ true → (some ≡ true) ⊎ (lines.is.lines ≢ end)
-    pub ending : Ended-as s.ending s
+    pub ending : EndedAs s.ending s
     pub fewer : s.left ≤ left
 
   pub record Walked (i : ℕ) (some : Bool) (left : ℕ) (r : Result Stop Refusal) : Type 0 where
@@ -213,92 +213,92 @@ module _ (text : List ℕ) (find : List ℕ → Option ℕ) (o : ℕ) (finds : (
   walked_then i some left (Ok x) f a b = b x refl
   walked_then i some left (Err d) f a b = record { bad = λ p e. let n : d ≡ Shape p = cc in a p (ap (λ m. Err m) n); good = λ s e. absurd (not_err d s e) }
 
-  walked-err : (i : ℕ) (some : Bool) (left p : ℕ) → Front text Bodied i p → Walked i some left (Err (Shape p))
-  walked-err i some left p f = record { bad = λ q e. let n : p ≡ q = cc in rw (sym n) f; good = λ s e. absurd (not_err (Shape p) s e) }
+  walked_err : (i : ℕ) (some : Bool) (left p : ℕ) → Front text Bodied i p → Walked i some left (Err (Shape p))
+  walked_err i some left p f = record { bad = λ q e. let n : p ≡ q = cc in rw (sym n) f; good = λ s e. absurd (not_err (Shape p) s e) }
 
   after : (i m : ℕ) (some : Bool) (l left : ℕ) (r : Result Stop Refusal) → Got text Bodied i m → l ≤ left → Walked m true l r → Walked i some left r
   after i m some l left r g h w =
       record {
-        bad = λ p e. front-map text (Both SomeLines Bodied) Bodied i p lines-bodied (front-second text SomeLines Bodied i m p (got-map text Bodied SomeLines i m bodied-lines g) (w.bad p e));
+        bad = λ p e. front_map text (Both SomeLines Bodied) Bodied i p lines-bodied (front_second text SomeLines Bodied i m p (got_map text Bodied SomeLines i m bodied-lines g) (w.bad p e));
         good = λ s e. let k = w.good s e in
-            let x : Got text Bodied i s.pos = got-map text (Both Bodied SomeLines) Bodied i s.pos bodied-more (got-both text Bodied SomeLines i m s.pos g k.lines) in
+            let x : Got text Bodied i s.pos = got_map text (Both Bodied SomeLines) Bodied i s.pos bodied-more (got_both text Bodied SomeLines i m s.pos g k.lines) in
             record { lines = record { bytes = x.bytes; is = record { lines = x.is.lines; spells = x.is.spells }; here = x.here; end_is = x.end_is }; had = λ _. inr x.is.some; ending = k.ending; fewer = omega (arith, k.fewer) };
       }
 
-  close-if : (i p : ℕ) → Front text IfLines i p → Front text Bodied i p
-  close-if i p f = front-map text (Both IfLines EndLine) Bodied i p if-whole (front-first text IfLines EndLine i p (codes "end\n") f refl)
+  close_if : (i p : ℕ) → Front text IfLines i p → Front text Bodied i p
+  close_if i p f = front_map text (Both IfLines EndLine) Bodied i p if-whole (front_first text IfLines EndLine i p (codes "end\n") f refl)
 
-  close-else : (i p : ℕ) → Front text ElseLines i p → Front text Bodied i p
-  close-else i p f = front-map text (Both ElseLines EndLine) Bodied i p else-whole (front-first text ElseLines EndLine i p (codes "end\n") f refl)
+  close_else : (i p : ℕ) → Front text ElseLines i p → Front text Bodied i p
+  close_else i p f = front_map text (Both ElseLines EndLine) Bodied i p else-whole (front_first text ElseLines EndLine i p (codes "end\n") f refl)
 
-  close-while : (i n p : ℕ) → Got text (HeadOf (codes "while ")) i n → Front text Bodied n p → Front text Bodied i p
-  close-while i n p g f = front-map text (Both WhileLines EndLine) Bodied i p while-whole (front-first text WhileLines EndLine i p (codes "end\n") (front-second text (HeadOf (codes "while ")) Bodied i n p g f) refl)
+  close_while : (i n p : ℕ) → Got text (HeadOf (codes "while ")) i n → Front text Bodied n p → Front text Bodied i p
+  close_while i n p g f = front_map text (Both WhileLines EndLine) Bodied i p while-whole (front_first text WhileLines EndLine i p (codes "end\n") (front_second text (HeadOf (codes "while ")) Bodied i n p g f) refl)
 
-  whole-front : (L : List ℕ → Type 0) (i p : ℕ) → Got text L i p → Front text L i p
-  whole-front L i p g = record { upto = g.bytes; more = []; is = rw (append-nil g.bytes) g.is; here = g.here; end_is = g.end_is }
+  whole_front : (L : List ℕ → Type 0) (i p : ℕ) → Got text L i p → Front text L i p
+  whole_front L i p g = record { upto = g.bytes; more = []; is = rw (append-nil g.bytes) g.is; here = g.here; end_is = g.end_is }
 
   -- an else or an end that may not stand there, as the beginning of a name
-  pub word-front : (k : Keyword) (i n : ℕ) → Got text (Just (written k ++ codes "\n")) i n → Front text Bodied i (n - 1)
-  word-front k i n g =
+  pub word_front : (k : Keyword) (i n : ℕ) → Got text (Just (written k ++ codes "\n")) i n → Front text Bodied i (n - 1)
+  word_front k i n g =
       let e : drop i text ≡ written k ++ (10 ∷ drop n text) = g.here ∙ ap (λ m. m ++ drop n text) g.is ∙ append_assoc (written k) (codes "\n") (drop n text) in
-      let l : n ≡ i + (length (written k) + 1) = g.end_is ∙ ap (λ m. i + length m) g.is ∙ ap (λ m. i + m) (one-longer (written k)) in
+      let l : n ≡ i + (length (written k) + 1) = g.end_is ∙ ap (λ m. i + length m) g.is ∙ ap (λ m. i + m) (one_longer (written k)) in
       let m : n - 1 ≡ i + length (written k) = omega arith in
       front-named text find o finds i (n - 1)
       (record { upto = written k; more = codes "a"; is = longer k; here = e ∙ ap (λ t. written k ++ t) (sym (ap (λ t. drop t text) m ∙ past text i (written k) _ e)); end_is = m })
     where
-      one-longer : (w : List ℕ) → length (w ++ codes "\n") ≡ length w + 1
-      one-longer [] = refl
-      one-longer (b ∷ w) = let h = one-longer w in omega (arith, h)
+      one_longer : (w : List ℕ) → length (w ++ codes "\n") ≡ length w + 1
+      one_longer [] = refl
+      one_longer (b ∷ w) = let h = one_longer w in omega (arith, h)
 
   pub lines_then : (n m p : ℕ) → Got text SomeLines n m → Front text Bodied m p → Front text Bodied n p
-  lines_then n m p g f = front-map text (Both SomeLines Bodied) Bodied n p lines-bodied (front-second text SomeLines Bodied n m p g f)
+  lines_then n m p g f = front_map text (Both SomeLines Bodied) Bodied n p lines-bodied (front_second text SomeLines Bodied n m p g f)
 
   module _ (f : ℕ) (go : ℕ → ℕ → ℕ → Bool → Result Stop Refusal) (h : (deep l n : ℕ) (some : Bool) → l < f → Walked n some l (go deep l n some)) where
     -- behind the second part of an if
-    else-on : (E : Ending) (i m deep left : ℕ) (some : Bool) (y : Stop) → Got text IfLines i m → (n : ℕ) → Got text (Just (codes "else\n")) m n → (k : Got text SomeLines n y.pos) → Ended-as E y → y.left < f → y.left ≤ left
+    else_on : (E : Ending) (i m deep left : ℕ) (some : Bool) (y : Stop) → Got text IfLines i m → (n : ℕ) → Got text (Just (codes "else\n")) m n → (k : Got text SomeLines n y.pos) → EndedAs E y → y.left < f → y.left ≤ left
         → Walked i some left (and_then (must_end_as E y) (λ e. go deep e.left e.next true))
-    else-on Text i m deep left some y g n a k e l q =
-        walked-err i some left y.pos (close-else i y.pos (whole-front ElseLines i y.pos (got-both text IfLines (Both (Just (codes "else\n")) SomeLines) i m y.pos g (got-both text (Just (codes "else\n")) SomeLines m n y.pos a k))))
-    else-on Else i m deep left some y g n a k e l q =
-        walked-err i some left (y.next - 1)
-        (close-else i (y.next - 1) (front-second text IfLines (Both (Just (codes "else\n")) SomeLines) i m (y.next - 1) g
-        (front-second text (Just (codes "else\n")) SomeLines m n (y.next - 1) a (front-map text Bodied SomeLines n (y.next - 1) bodied-lines (lines_then n y.pos (y.next - 1) k (word-front kw.Else y.pos y.next e))))))
-    else-on End i m deep left some y g n a k e l q =
+    else_on Text i m deep left some y g n a k e l q =
+        walked_err i some left y.pos (close_else i y.pos (whole_front ElseLines i y.pos (got_both text IfLines (Both (Just (codes "else\n")) SomeLines) i m y.pos g (got_both text (Just (codes "else\n")) SomeLines m n y.pos a k))))
+    else_on Else i m deep left some y g n a k e l q =
+        walked_err i some left (y.next - 1)
+        (close_else i (y.next - 1) (front_second text IfLines (Both (Just (codes "else\n")) SomeLines) i m (y.next - 1) g
+        (front_second text (Just (codes "else\n")) SomeLines m n (y.next - 1) a (front_map text Bodied SomeLines n (y.next - 1) bodied-lines (lines_then n y.pos (y.next - 1) k (word_front kw.Else y.pos y.next e))))))
+    else_on End i m deep left some y g n a k e l q =
         after i y.next some y.left left _
-        (got-map text (Both ElseLines EndLine) Bodied i y.next else-whole (got-both text ElseLines EndLine i y.pos y.next
-        (got-both text IfLines (Both (Just (codes "else\n")) SomeLines) i m y.pos g (got-both text (Just (codes "else\n")) SomeLines m n y.pos a k)) e))
+        (got_map text (Both ElseLines EndLine) Bodied i y.next else-whole (got_both text ElseLines EndLine i y.pos y.next
+        (got_both text IfLines (Both (Just (codes "else\n")) SomeLines) i m y.pos g (got_both text (Just (codes "else\n")) SomeLines m n y.pos a k)) e))
         q (h deep y.left y.next true l)
 
-    if-on : (E : Ending) (i n deep left : ℕ) (some : Bool) (x : Stop) → Got text (HeadOf (codes "if ")) i n → Got text SomeLines n x.pos → Ended-as E x → x.left < f → x.left ≤ left
+    if_on : (E : Ending) (i n deep left : ℕ) (some : Bool) (x : Stop) → Got text (HeadOf (codes "if ")) i n → Got text SomeLines n x.pos → EndedAs E x → x.left < f → x.left ≤ left
         → Walked i some left (cond (is_else_spec E) (and_then (go (deep - 1) x.left x.next false) (λ t. and_then (must_end_spec t) (λ e. go deep e.left e.next true))) (and_then (must_end_as E x) (λ e. go deep e.left e.next true)))
-    if-on Text i n deep left some x g k e l q = walked-err i some left x.pos (close-if i x.pos (whole-front IfLines i x.pos (got-both text (HeadOf (codes "if ")) SomeLines i n x.pos g k)))
-    if-on End i n deep left some x g k e l q =
+    if_on Text i n deep left some x g k e l q = walked_err i some left x.pos (close_if i x.pos (whole_front IfLines i x.pos (got_both text (HeadOf (codes "if ")) SomeLines i n x.pos g k)))
+    if_on End i n deep left some x g k e l q =
         after i x.next some x.left left _
-        (got-map text (Both IfLines EndLine) Bodied i x.next if-whole (got-both text IfLines EndLine i x.pos x.next (got-both text (HeadOf (codes "if ")) SomeLines i n x.pos g k) e)) q (h deep x.left x.next true l)
-    if-on Else i n deep left some x g k e l q =
-        let gi : Got text IfLines i x.pos = got-both text (HeadOf (codes "if ")) SomeLines i n x.pos g k in
+        (got_map text (Both IfLines EndLine) Bodied i x.next if-whole (got_both text IfLines EndLine i x.pos x.next (got_both text (HeadOf (codes "if ")) SomeLines i n x.pos g k) e)) q (h deep x.left x.next true l)
+    if_on Else i n deep left some x g k e l q =
+        let gi : Got text IfLines i x.pos = got_both text (HeadOf (codes "if ")) SomeLines i n x.pos g k in
         let w = h (deep - 1) x.left x.next false l in
         walked_then i some left (go (deep - 1) x.left x.next false) (λ t. and_then (must_end_spec t) (λ e. go deep e.left e.next true))
-        (λ p a. close-else i p (front-second text IfLines (Both (Just (codes "else\n")) SomeLines) i x.pos p gi
-        (front-second text (Just (codes "else\n")) SomeLines x.pos x.next p e (front-map text Bodied SomeLines x.next p bodied-lines (w.bad p a)))))
-        (λ y a. let z = w.good y a in else-on y.ending i x.pos deep left some y gi x.next e z.lines z.ending (omega (arith, z.fewer)) (omega (arith, z.fewer)))
+        (λ p a. close_else i p (front_second text IfLines (Both (Just (codes "else\n")) SomeLines) i x.pos p gi
+        (front_second text (Just (codes "else\n")) SomeLines x.pos x.next p e (front_map text Bodied SomeLines x.next p bodied-lines (w.bad p a)))))
+        (λ y a. let z = w.good y a in else_on y.ending i x.pos deep left some y gi x.next e z.lines z.ending (omega (arith, z.fewer)) (omega (arith, z.fewer)))
 
-    loop-some : (b : Bool) (i n deep left : ℕ) (some : Bool) (x : Stop) → x.some ≡ b → Got text (HeadOf (codes "while ")) i n → (k : Got text SomeLines n x.pos) → (x.some ≡ true → (false ≡ true) ⊎ (k.is.lines ≢ end)) → Got text EndLine x.pos x.next → x.left < f → x.left ≤ left
+    loop_some : (b : Bool) (i n deep left : ℕ) (some : Bool) (x : Stop) → x.some ≡ b → Got text (HeadOf (codes "while ")) i n → (k : Got text SomeLines n x.pos) → (x.some ≡ true → (false ≡ true) ⊎ (k.is.lines ≢ end)) → Got text EndLine x.pos x.next → x.left < f → x.left ≤ left
         → Walked i some left (and_then (cond b (Ok x) (Err (Shape (x.next - 1)))) (λ e. go deep e.left e.next true))
-    loop-some false i n deep left some x sb g k hd e l q = walked-err i some left (x.next - 1) (close-while i n (x.next - 1) g (lines_then n x.pos (x.next - 1) k (word-front kw.End x.pos x.next e)))
-    loop-some true i n deep left some x sb g k hd e l q =
+    loop_some false i n deep left some x sb g k hd e l q = walked_err i some left (x.next - 1) (close_while i n (x.next - 1) g (lines_then n x.pos (x.next - 1) k (word_front kw.End x.pos x.next e)))
+    loop_some true i n deep left some x sb g k hd e l q =
         let ne : k.is.lines ≢ end = elim (hd sb) [ inl z ↦ absurd (let y : ◌≡◌ {A = ℕ} 0 1 = cc in omega arith) | inr y ↦ y ] in
         let kb : Got text Bodied n x.pos = record { bytes = k.bytes; is = record { lines = k.is.lines; spells = k.is.spells; some = ne }; here = k.here; end_is = k.end_is } in
         after i x.next some x.left left _
-        (got-map text (Both WhileLines EndLine) Bodied i x.next while-whole (got-both text WhileLines EndLine i x.pos x.next (got-both text (HeadOf (codes "while ")) Bodied i n x.pos g kb) e)) q (h deep x.left x.next true l)
+        (got_map text (Both WhileLines EndLine) Bodied i x.next while-whole (got_both text WhileLines EndLine i x.pos x.next (got_both text (HeadOf (codes "while ")) Bodied i n x.pos g kb) e)) q (h deep x.left x.next true l)
 
-    loop-on : (E : Ending) (i n deep left : ℕ) (some : Bool) (x : Stop) → Got text (HeadOf (codes "while ")) i n → (k : Got text SomeLines n x.pos) → (x.some ≡ true → (false ≡ true) ⊎ (k.is.lines ≢ end)) → Ended-as E x → x.left < f → x.left ≤ left
+    loop_on : (E : Ending) (i n deep left : ℕ) (some : Bool) (x : Stop) → Got text (HeadOf (codes "while ")) i n → (k : Got text SomeLines n x.pos) → (x.some ≡ true → (false ≡ true) ⊎ (k.is.lines ≢ end)) → EndedAs E x → x.left < f → x.left ≤ left
         → Walked i some left (and_then (must_loop_as E x) (λ e. go deep e.left e.next true))
-    loop-on Text i n deep left some x g k hd e l q = walked-err i some left x.pos (close-while i n x.pos g (lines_then n x.pos x.pos k (front-none text Bodied x.pos (codes "barrier\n") a-barrier)))
-    loop-on Else i n deep left some x g k hd e l q = walked-err i some left (x.next - 1) (close-while i n (x.next - 1) g (lines_then n x.pos (x.next - 1) k (word-front kw.Else x.pos x.next e)))
-    loop-on End i n deep left some x g k hd e l q = loop-some x.some i n deep left some x refl g k hd e l q
+    loop_on Text i n deep left some x g k hd e l q = walked_err i some left x.pos (close_while i n x.pos g (lines_then n x.pos x.pos k (front_none text Bodied x.pos (codes "barrier\n") a-barrier)))
+    loop_on Else i n deep left some x g k hd e l q = walked_err i some left (x.next - 1) (close_while i n (x.next - 1) g (lines_then n x.pos (x.next - 1) k (word_front kw.Else x.pos x.next e)))
+    loop_on End i n deep left some x g k hd e l q = loop_some x.some i n deep left some x refl g k hd e l q
 
-    stopped : (E : Ending) (i n left : ℕ) (some : Bool) → Ended-as E (record { ending = E; some = some; pos = i; next = n; left = left }) → (m : ℕ) → left ≤ m → Walked i some m (Ok (record { ending = E; some = some; pos = i; next = n; left = left }))
+    stopped : (E : Ending) (i n left : ℕ) (some : Bool) → EndedAs E (record { ending = E; some = some; pos = i; next = n; left = left }) → (m : ℕ) → left ≤ m → Walked i some m (Ok (record { ending = E; some = some; pos = i; next = n; left = left }))
     stopped E i n left some e m q =
         record {
           bad = λ p a. let z : ◌≡◌ {A = ℕ} 0 1 = cc in absurd (omega arith);
@@ -306,33 +306,33 @@ module _ (text : List ℕ) (find : List ℕ → Option ℕ) (o : ℕ) (finds : (
               rw (sym y) (record { lines = record { bytes = []; is = no_lines; here = refl; end_is = omega arith }; had = λ b. inl b; ending = e; fewer = q });
         }
 
-    by-line : (x : Line) (i n deep left : ℕ) (some : Bool) → Got text (LineOf x) i n → 0 < left → left < suc f → Walked i some left (by_kind go deep left i some (kind_of_spec x) n)
-    by-line (line.Put k x) i n deep left some g z l = after i n some (left - 1) left _ g (omega arith) (h deep (left - 1) n true (omega arith))
-    by-line (line.Read b k x) i n deep left some g z l = after i n some (left - 1) left _ g (omega arith) (h deep (left - 1) n true (omega arith))
-    by-line (line.Write b p v) i n deep left some g z l = after i n some (left - 1) left _ g (omega arith) (h deep (left - 1) n true (omega arith))
-    by-line line.Barrier i n deep left some g z l = after i n some (left - 1) left _ g (omega arith) (h deep (left - 1) n true (omega arith))
-    by-line (line.If x) i n deep left some g z l =
+    by_line : (x : Line) (i n deep left : ℕ) (some : Bool) → Got text (LineOf x) i n → 0 < left → left < suc f → Walked i some left (by_kind go deep left i some (kind_of_spec x) n)
+    by_line (line.Put k x) i n deep left some g z l = after i n some (left - 1) left _ g (omega arith) (h deep (left - 1) n true (omega arith))
+    by_line (line.Read b k x) i n deep left some g z l = after i n some (left - 1) left _ g (omega arith) (h deep (left - 1) n true (omega arith))
+    by_line (line.Write b p v) i n deep left some g z l = after i n some (left - 1) left _ g (omega arith) (h deep (left - 1) n true (omega arith))
+    by_line line.Barrier i n deep left some g z l = after i n some (left - 1) left _ g (omega arith) (h deep (left - 1) n true (omega arith))
+    by_line (line.If x) i n deep left some g z l =
         let w = h (deep - 1) (left - 1) n false (omega arith) in
         walked_then i some left (go (deep - 1) (left - 1) n false) _
-        (λ p a. close-if i p (front-second text (HeadOf (codes "if ")) SomeLines i n p g (front-map text Bodied SomeLines n p bodied-lines (w.bad p a))))
-        (λ y a. let k = w.good y a in if-on y.ending i n deep left some y g k.lines k.ending (omega (arith, k.fewer)) (omega (arith, k.fewer)))
-    by-line line.Else i n deep left some g z l = stopped Else i n (left - 1) some g left (omega arith)
-    by-line line.End i n deep left some g z l = stopped End i n (left - 1) some g left (omega arith)
-    by-line (line.While x) i n deep left some g z l =
+        (λ p a. close_if i p (front_second text (HeadOf (codes "if ")) SomeLines i n p g (front_map text Bodied SomeLines n p bodied-lines (w.bad p a))))
+        (λ y a. let k = w.good y a in if_on y.ending i n deep left some y g k.lines k.ending (omega (arith, k.fewer)) (omega (arith, k.fewer)))
+    by_line line.Else i n deep left some g z l = stopped Else i n (left - 1) some g left (omega arith)
+    by_line line.End i n deep left some g z l = stopped End i n (left - 1) some g left (omega arith)
+    by_line (line.While x) i n deep left some g z l =
         let w = h (deep - 1) (left - 1) n false (omega arith) in
         walked_then i some left (go (deep - 1) (left - 1) n false) _
-        (λ p a. close-while i n p g (w.bad p a))
-        (λ y a. let k = w.good y a in loop-on y.ending i n deep left some y g k.lines k.had k.ending (omega (arith, k.fewer)) (omega (arith, k.fewer)))
+        (λ p a. close_while i n p g (w.bad p a))
+        (λ y a. let k = w.good y a in loop_on y.ending i n deep left some y g k.lines k.had k.ending (omega (arith, k.fewer)) (omega (arith, k.fewer)))
 
   walked_cond : (c : Bool) (i : ℕ) (some : Bool) (left : ℕ) (r s : Result Stop Refusal) → (c ≡ true → Walked i some left r) → (c ≡ false → Walked i some left s) → Walked i some left (cond c r s)
   walked_cond true i some left r s a b = a refl
   walked_cond false i some left r s a b = b refl
 
-  pub block-walk : (f deep left i : ℕ) (some : Bool) → left < f → Walked i some left (block_at find text f deep left i some)
+  pub block_walk : (f deep left i : ℕ) (some : Bool) → left < f → Walked i some left (block_at find text f deep left i some)
   unfolding block_at
-  block-walk zero deep left i some l = absurd (omega arith)
-  block-walk (suc f) deep left i some l =
+  block_walk zero deep left i some l = absurd (omega arith)
+  block_walk (suc f) deep left i some l =
       walked_cond (leb (length text) i) i some left _ _
-      (λ c. stopped f (block_at find text f) (λ d m n b k. block-walk f d m n b k) Text i i left some (leb-true (length text) i c) left (omega arith))
+      (λ c. stopped f (block_at find text f) (λ d m n b k. block_walk f d m n b k) Text i i left some (leb-true (length text) i c) left (omega arith))
       (λ c. walked_then i some left (next_at find text deep left i) _ (λ p e. front-line text find o finds i p (next-err text find deep left i p e))
-      (λ x e. let q = next-ok text find deep left i x e in by-line f (block_at find text f) (λ d m n b k. block-walk f d m n b k) x.line i x.next deep left some (got-line text find o finds i x q.0) q.1 l))
+      (λ x e. let q = next-ok text find deep left i x e in by_line f (block_at find text f) (λ d m n b k. block_walk f d m n b k) x.line i x.next deep left some (got-line text find o finds i x q.0) q.1 l))

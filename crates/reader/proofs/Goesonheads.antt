@@ -1,9 +1,9 @@
 -- A text that is refused for its shape can go on up to there.
 use Rattle.std.proofs.Common.{◌≡◌, ℕ, zero, suc, ◌+◌, ◌-◌, ◌<◌, ◌≤◌, Bool, true, false, cond, eqb, ltb, leb, ◌≢◌, ◌⊎◌, List, [], ◌∷◌, ◌++◌, length, get_or, take, drop, Some, None, Ok, Err, codes, Option, Result, sym, refl, ap, ◌∙◌, inl, inr, arith}
-use Rattle.std.proofs.lemmas.List.{append_assoc, append-nil, length-append, length_push, length-drop, take_at, get_or_past}
+use Rattle.std.proofs.lemmas.List.{append_assoc, append-nil, length_append, length_push, length-drop, take_at, get_or_past}
 use Rattle.std.proofs.lemmas.Bool.{cases_Bool, cases_lt, leb-true, eqb-true, both_ways}
 use Rattle.lanes.specs.Syntax.{Program, Body, end}
-use Rattle.grammar.specs.Spelling.{letter, digit, word_byte, each_byte, decimal, one_of, IsName, IsNumber, Spells-body, OwnLine, CellsLine, Spelled, AnyName, Viable}
+use Rattle.grammar.specs.Spelling.{letter, digit, word_byte, each_byte, decimal, one_of, IsName, IsNumber, SpellsBody, OwnLine, CellsLine, Spelled, AnyName, Viable}
 use Rattle.grammar.specs.Runs.{run_of, written}
 use Rattle.grammar.specs.Names.{NamesIn}
 use Rattle.grammar.specs.Walk.{word_part, key_at, key_of, bytes_at, number_part, and_then, place_in}
@@ -15,7 +15,7 @@ use Rattle.grammar.proofs.Walks.{run-each}
 use Rattle.grammar.proofs.Nameds.{place-named, named-name}
 use Rattle.grammar.proofs.Sound.{cond_cases, then-parts, not_err, same_ok, bytes-sound, run-splits, run_length, run-some, key-sound}
 use Rattle.grammar.proofs.Goesonline.{then-fails}
-use Rattle.grammar.proofs.Goesonfront.{Just, Both, Front, Got, front-map, got-map, front-none, front-first, front-second, front-then, got-bytes, front_bytes, front_long, front-key, name-a}
+use Rattle.grammar.proofs.Goesonfront.{Just, Both, Front, Got, front_map, got_map, front_none, front_first, front_second, front_then, got_bytes, front_bytes, front_long, front_key, name-a}
 use Rattle.grammar.proofs.Goesonbegun.{Bodied}
 use Rattle.reader.specs.Heads.{spaced, is_key, is_own_spec, is_cells_spec, name_at, names_at, own_at, Found, cells_at}
 use Rattle.reader.specs.Blocks.{block_at}
@@ -26,7 +26,7 @@ use Rattle.reader.specs.declared.blocks.Ending.TheVariants.{Text, Else, End}
 use Rattle.reader.specs.declared.blocks.Stop.{Stop}
 use Rattle.reader.proofs.Owns.{New, name-sound, own-begins}
 use Rattle.reader.proofs.Whole.{Owned, own-sound, Celled, cells-sound}
-use Rattle.reader.proofs.Goesonclosed.{SomeLines, Walked, Gone, block-walk, word-front, lines_then}
+use Rattle.reader.proofs.Goesonclosed.{SomeLines, Walked, Gone, block_walk, word_front, lines_then}
 
 -- a key that is there
 key-there : (k : Option Keyword) → is_key k ≡ true → (m : Keyword) × (k ≡ Some m)
@@ -77,7 +77,7 @@ module _ (text : List ℕ) where
   unfolding name_at
   front-name seen i p e =
       elim (cond_cases (letter (get_or text i 0)) _ _ (Err (Shape p)) e) [
-        | inr h ↦ let x = h.1 in let n : i ≡ p = cc in rw (sym n) (front-none text IsName i (codes "a") name-a)
+        | inr h ↦ let x = h.1 in let n : i ≡ p = cc in rw (sym n) (front_none text IsName i (codes "a") name-a)
         | inl h ↦ elim (cond_cases (leb 9 (run_of word_byte (drop i text))) _ _ (Err (Shape p)) h.1) [
           | inl q ↦ let x = q.1 in let n : i + 8 ≡ p = cc in rw (sym n) (front_long text i h.0 (leb-true 9 (run_of word_byte (drop i text)) q.0))
           | inr q ↦ elim (cond_cases (is_key (key_at text i)) _ _ (Err (Shape p)) q.1) [
@@ -86,7 +86,7 @@ module _ (text : List ℕ) where
                 let m = key-there (key_at text i) k.0 in
                 let g : Got text (Just (written m.0)) i (i + run_of word_byte (drop i text)) =
                 record { bytes = word_part text i; is = key-sound (word_part text i) m.0 m.1; here = run-splits word_byte text i; end_is = omega (arith, run_length word_byte text i) } in
-                rw (sym n) (front-key text (λ u. None) m.0 i (i + run_of word_byte (drop i text)) g)
+                rw (sym n) (front_key text (λ u. None) m.0 i (i + run_of word_byte (drop i text)) g)
             | inr k ↦ elim (cond_cases (one_of seen (word_part text i)) _ _ (Err (Shape p)) k.1) [
               | inl o ↦ let x = o.1 in let z : ◌≡◌ {A = ℕ} 0 1 = cc in absurd (omega arith)
               | inr o ↦ elim (cond_cases (leb 64 (length seen)) _ _ (Err (Shape p)) o.1)
@@ -126,23 +126,23 @@ module _ (text : List ℕ) where
                 ]
           ]
 
-  abbrev after-name : ℕ → List (List ℕ) → ℕ → ℕ → Result Found Refusal
-  after-name n seen j m = cond (eqb (get_or text m 0) 10) (Ok (record { names = seen ++ (word_part text j ∷ []); next = m + 1 })) (names_at text n (seen ++ (word_part text j ∷ [])) m)
+  abbrev after_name : ℕ → List (List ℕ) → ℕ → ℕ → Result Found Refusal
+  after_name n seen j m = cond (eqb (get_or text m 0) 10) (Ok (record { names = seen ++ (word_part text j ∷ []); next = m + 1 })) (names_at text n (seen ++ (word_part text j ∷ [])) m)
 
-  front-after : (n : ℕ) (seen : List (List ℕ)) (j m p : ℕ) → (names_at text n (seen ++ (word_part text j ∷ [])) m ≡ Err (Shape p) → Front text Names m p) → after-name n seen j m ≡ Err (Shape p) → Front text Tail m p
+  front-after : (n : ℕ) (seen : List (List ℕ)) (j m p : ℕ) → (names_at text n (seen ++ (word_part text j ∷ [])) m ≡ Err (Shape p) → Front text Names m p) → after_name n seen j m ≡ Err (Shape p) → Front text Tail m p
   front-after n seen j m p ih c =
       elim (cond_cases (eqb (get_or text m 0) 10) (Ok (record { names = seen ++ (word_part text j ∷ []); next = m + 1 })) (names_at text n (seen ++ (word_part text j ∷ [])) m) (Err (Shape p)) c) [
         | inl d ↦ let x = d.1 in let z : ◌≡◌ {A = ℕ} 0 1 = cc in absurd (omega arith)
-        | inr d ↦ front-map text Names Tail m p (λ t x. x.tail) (ih d.1)
+        | inr d ↦ front_map text Names Tail m p (λ t x. x.tail) (ih d.1)
       ]
 
   front-names : (n : ℕ) (seen : List (List ℕ)) (i p : ℕ) → length seen ≤ 64 → 65 ≤ length seen + n → names_at text n seen i ≡ Err (Shape p) → Front text Names i p
   unfolding names_at
   front-names zero seen i p a b e = absurd (omega arith)
   front-names (suc n) seen i p a b e =
-      front-map text (Both (Just (codes " ")) NameTail) Names i p names-from
-      (front-then text (Just (codes " ")) NameTail (λ j. j) i p (codes "a\n") (bytes_at text (codes " ") i) _ name-tail-a (λ q. front_bytes text (codes " ") i q) (λ j. got-bytes text (codes " ") i j)
-      (λ j _ h. front-then text IsName Tail (λ m. m) j p (codes "\n") (name_at seen text j) (after-name n seen j) tail-end (λ q. front-name seen j q) (λ m. got-name seen j m)
+      front_map text (Both (Just (codes " ")) NameTail) Names i p names-from
+      (front_then text (Just (codes " ")) NameTail (λ j. j) i p (codes "a\n") (bytes_at text (codes " ") i) _ name-tail-a (λ q. front_bytes text (codes " ") i q) (λ j. got_bytes text (codes " ") i j)
+      (λ j _ h. front_then text IsName Tail (λ m. m) j p (codes "\n") (name_at seen text j) (after_name n seen j) tail-end (λ q. front-name seen j q) (λ m. got-name seen j m)
       (λ m y c. let w = name-sound seen text j m y in
       front-after n seen j m p (front-names n (seen ++ (word_part text j ∷ [])) m p (omega (arith, length_push seen (word_part text j), w.room)) (omega (arith, length_push seen (word_part text j)))) c) h) e)
 
@@ -153,7 +153,7 @@ module _ (text : List ℕ) where
     pub cells_line_spec : CellsLine shared cells
     pub lines : List ℕ
     pub body : Body
-    pub spells : Spells-body AnyName body lines
+    pub spells : SpellsBody AnyName body lines
     pub is : t ≡ cells ++ lines
 
   -- refused in the text or at its end, and the bytes before it can go on
@@ -165,11 +165,11 @@ module _ (text : List ℕ) where
   viable ns own i p l names e b f =
       let u : List ℕ = f.upto in
       let all : text ≡ (own ++ u) ++ drop p text = e ∙ ap (λ m. own ++ m) f.here ∙ sym (append_assoc own u (drop p text)) in
-      let n : length own ≡ i = omega (arith, ap length e, length-append own (drop i text), length-drop i text) in
-      let m : length (own ++ u) ≡ p = omega (arith, length-append own u, n, f.end_is) in
+      let n : length own ≡ i = omega (arith, ap length e, length_append own (drop i text), length-drop i text) in
+      let m : length (own ++ u) ≡ p = omega (arith, length_append own u, n, f.end_is) in
       let q : take p text ≡ own ++ u = ap (λ t. take p t) all ∙ take_at (own ++ u) (drop p text) p m in
       record {
-        within = omega (arith, f.end_is, ap length f.here, length-append u (drop p text), length-drop i text, length-drop p text, b);
+        within = omega (arith, f.end_is, ap length f.here, length_append u (drop p text), length-drop i text, length-drop p text, b);
         before = record {
           rest = f.more;
           program = record { body = f.is.body; owns = length ns; shared = f.is.shared };
@@ -188,16 +188,16 @@ module _ (text : List ℕ) where
         };
       }
 
-  names-viable : (p : ℕ) → is_own_spec (key_at text 0) ≡ true → Front text Names 3 p → Begun p
-  unfolding Spells-body
-  names-viable p h f =
+  names_viable : (p : ℕ) → is_own_spec (key_at text 0) ≡ true → Front text Names 3 p → Begun p
+  unfolding SpellsBody
+  names_viable p h f =
       let b = (own-begins text h).0 in
       let u : List ℕ = f.upto in
       let ns : List (List ℕ) = f.is.tail.names in
       let all : text ≡ (codes "own" ++ u) ++ drop p text = b ∙ ap (λ m. codes "own" ++ m) f.here in
       let q : take p text ≡ codes "own" ++ u = ap (λ t. take p t) all ∙ take_at (codes "own" ++ u) (drop p text) p (omega (arith, f.end_is)) in
       record {
-        within = omega (arith, f.end_is, ap length all, length-append u (drop p text), length-drop p text);
+        within = omega (arith, f.end_is, ap length all, length_append u (drop p text), length-drop p text);
         before = record {
           rest = f.more;
           program = record { body = end; owns = length ns; shared = 0 };
@@ -216,41 +216,41 @@ module _ (text : List ℕ) where
         };
       }
 
-  own-viable : (p : ℕ) → own_at text ≡ Err (Shape p) → Begun p
+  own_viable : (p : ℕ) → own_at text ≡ Err (Shape p) → Begun p
   unfolding own_at
-  own-viable p e =
+  own_viable p e =
       elim (cond_cases (is_own_spec (key_at text 0)) _ _ (Err (Shape p)) e) [
-        | inl h ↦ names-viable p h.0 (front-names 66 [] 3 p (omega arith) (omega arith) h.1)
+        | inl h ↦ names_viable p h.0 (front-names 66 [] 3 p (omega arith) (omega arith) h.1)
         | inr h ↦ let x = h.1 in let z : ◌≡◌ {A = ℕ} 0 1 = cc in absurd (omega arith)
       ]
 
   -- what is read lies in the text
-  line-within : (e : ℕ) → eqb (get_or text e 0) 10 ≡ true → e + 1 ≤ length text
-  line-within e h =
+  line_within : (e : ℕ) → eqb (get_or text e 0) 10 ≡ true → e + 1 ≤ length text
+  line_within e h =
       elim (cases_lt e (length text)) [
         | inl l ↦ omega arith
         | inr l ↦ absurd (omega (arith, eqb-true (get_or text e 0) 10 h, get_or_past text e 0 l))
       ]
 
-  names-within : (n : ℕ) (seen : List (List ℕ)) (i : ℕ) (f : Found) → names_at text n seen i ≡ Ok f → f.next ≤ length text
+  names_within : (n : ℕ) (seen : List (List ℕ)) (i : ℕ) (f : Found) → names_at text n seen i ≡ Ok f → f.next ≤ length text
   unfolding names_at
-  names-within zero seen i f h = absurd (not_err (Shape i) f h)
-  names-within (suc n) seen i f h =
+  names_within zero seen i f h = absurd (not_err (Shape i) f h)
+  names_within (suc n) seen i f h =
       let p = then-parts (bytes_at text (codes " ") i) _ f h in
       let q = then-parts (name_at seen text p.0) _ f p.2 in
       elim (cond_cases (eqb (get_or text q.0 0) 10) _ _ (Ok f) q.2) [
-        | inl c ↦ let m : q.0 + 1 ≡ f.next = ap (λ (x : Found). x.next) (same_ok _ f c.1) in omega (arith, m, line-within q.0 c.0)
-        | inr c ↦ names-within n (seen ++ (word_part text p.0 ∷ [])) q.0 f c.1
+        | inl c ↦ let m : q.0 + 1 ≡ f.next = ap (λ (x : Found). x.next) (same_ok _ f c.1) in omega (arith, m, line_within q.0 c.0)
+        | inr c ↦ names_within n (seen ++ (word_part text p.0 ∷ [])) q.0 f c.1
       ]
 
-  own-within : (f : Found) → own_at text ≡ Ok f → f.next ≤ length text
+  own_within : (f : Found) → own_at text ≡ Ok f → f.next ≤ length text
   unfolding own_at
-  own-within f e =
+  own_within f e =
       elim (cond_cases (is_own_spec (key_at text 0)) _ _ (Ok f) e)
-      [ inl h ↦ names-within 66 [] 3 f h.1 | inr h ↦ let m : 0 ≡ f.next = ap (λ (x : Found). x.next) (same_ok _ f h.1) in omega (arith, m) ]
+      [ inl h ↦ names_within 66 [] 3 f h.1 | inr h ↦ let m : 0 ≡ f.next = ap (λ (x : Found). x.next) (same_ok _ f h.1) in omega (arith, m) ]
 
   -- the line with the number of cells
-  pub record Cells-text (t : List ℕ) : Type 0 where
+  pub record CellsText (t : List ℕ) : Type 0 where
     pub many : ℕ
     pub number : List ℕ
     pub counts : IsNumber many number
@@ -263,13 +263,13 @@ module _ (text : List ℕ) where
   unfolding each_byte decimal
   zero_number = (0, record { some = omega arith; bytes = refl; value = refl })
 
-  abbrev Number-end : List ℕ → Type 0
-  Number-end = Both Number (Just (codes "\n"))
+  abbrev NumberEnd : List ℕ → Type 0
+  NumberEnd = Both Number (Just (codes "\n"))
 
-  number-end : Number-end (codes "0\n")
+  number-end : NumberEnd (codes "0\n")
   number-end = record { left = codes "0"; right = codes "\n"; one = zero_number; two = refl; is = refl }
 
-  cells_from : (t : List ℕ) → Both (Just (codes "cells ")) Number-end t → Cells-text t
+  cells_from : (t : List ℕ) → Both (Just (codes "cells ")) NumberEnd t → CellsText t
   cells_from t b =
       record {
         many = b.two.one.0;
@@ -297,38 +297,38 @@ module _ (text : List ℕ) where
       (and_then (bytes_at text (codes "\n") (j + run_of digit (drop j text))) (λ n. Ok (record { many = number_part text j; next = n })))))
       (Err (Shape j))
 
-  abbrev number-done : ℕ → ℕ → Result Head Refusal
-  number-done j n = Ok (record { many = number_part text j; next = n })
+  abbrev number_done : ℕ → ℕ → Result Head Refusal
+  number_done j n = Ok (record { many = number_part text j; next = n })
 
-  front-number : (i j p : ℕ) → number_at i j ≡ Err (Shape p) → Front text Number-end j p
+  front-number : (i j p : ℕ) → number_at i j ≡ Err (Shape p) → Front text NumberEnd j p
   front-number i j p e =
       elim (cond_cases (digit (get_or text j 0)) _ _ (Err (Shape p)) e) [
-        | inr h ↦ let x = h.1 in let n : j ≡ p = cc in rw (sym n) (front-none text Number-end j (codes "0\n") number-end)
+        | inr h ↦ let x = h.1 in let n : j ≡ p = cc in rw (sym n) (front_none text NumberEnd j (codes "0\n") number-end)
         | inl h ↦ elim (cond_cases (ltb 16384 (number_part text j)) _ _ (Err (Shape p)) h.1) [
           | inl q ↦ let x = q.1 in let z : ◌≡◌ {A = ℕ} 0 1 = cc in absurd (omega arith)
           | inr q ↦ elim (cond_cases (ltb 1024 ((j + run_of digit (drop j text)) - i)) _ _ (Err (Shape p)) q.1) [
             | inl k ↦ let x = k.1 in let z : ◌≡◌ {A = ℕ} 0 1 = cc in absurd (omega arith)
             | inr k ↦
-                elim (then-fails (bytes_at text (codes "\n") (j + run_of digit (drop j text))) (number-done j) (Shape p) k.1) [
-                  | inl y ↦ front-second text Number (Just (codes "\n")) j (j + run_of digit (drop j text)) p (got_number j h.0) (front_bytes text (codes "\n") (j + run_of digit (drop j text)) p y)
+                elim (then-fails (bytes_at text (codes "\n") (j + run_of digit (drop j text))) (number_done j) (Shape p) k.1) [
+                  | inl y ↦ front_second text Number (Just (codes "\n")) j (j + run_of digit (drop j text)) p (got_number j h.0) (front_bytes text (codes "\n") (j + run_of digit (drop j text)) p y)
                   | inr y ↦ let x = y.2 in let z : ◌≡◌ {A = ℕ} 0 1 = cc in absurd (omega arith)
                 ]
           ]
         ]
       ]
 
-  front-cells : (i p : ℕ) → cells_at text i ≡ Err (Shape p) → Front text Cells-text i p
+  front-cells : (i p : ℕ) → cells_at text i ≡ Err (Shape p) → Front text CellsText i p
   unfolding cells_at
   front-cells i p e =
       elim (cond_cases (is_cells_spec (key_at text i)) _ _ (Err (Shape p)) e) [
         | inl h ↦
-            front-map text (Both (Just (codes "cells ")) Number-end) Cells-text i p cells_from
-            (front-then text (Just (codes "cells ")) Number-end (λ j. j) i p (codes "0\n") (bytes_at text (codes "cells ") i) _ number-end (λ q. front_bytes text (codes "cells ") i q) (λ j. got-bytes text (codes "cells ") i j) (λ j _. front-number i j p) h.1)
+            front_map text (Both (Just (codes "cells ")) NumberEnd) CellsText i p cells_from
+            (front_then text (Just (codes "cells ")) NumberEnd (λ j. j) i p (codes "0\n") (bytes_at text (codes "cells ") i) _ number-end (λ q. front_bytes text (codes "cells ") i q) (λ j. got_bytes text (codes "cells ") i j) (λ j _. front-number i j p) h.1)
         | inr h ↦ let x = h.1 in let z : ◌≡◌ {A = ℕ} 0 1 = cc in absurd (omega arith)
       ]
 
-  cells_rest : (t : List ℕ) → Cells-text t → Rest t
-  unfolding Spells-body
+  cells_rest : (t : List ℕ) → CellsText t → Rest t
+  unfolding SpellsBody
   cells_rest t c = record { shared = c.many; cells = t; cells_line_spec = inr (c.number, c.counts, c.is); lines = []; body = end; spells = refl; is = sym (append-nil t) }
 
   cells-within : (i : ℕ) (h : Head) → cells_at text i ≡ Ok h → i ≤ length text → h.next ≤ length text
@@ -358,49 +358,49 @@ module _ (text : List ℕ) where
       ]
 
   -- the lines
-  abbrev Celled-then : List ℕ → Type 0
-  Celled-then = Both (λ c. (s : ℕ) × CellsLine s c) Bodied
+  abbrev CelledThen : List ℕ → Type 0
+  CelledThen = Both (λ c. (s : ℕ) × CellsLine s c) Bodied
 
-  celled-rest : (t : List ℕ) → Celled-then t → Rest t
+  celled-rest : (t : List ℕ) → CelledThen t → Rest t
   celled-rest t b = record { shared = b.one.0; cells = b.left; cells_line_spec = b.one.1; lines = b.right; body = b.two.lines; spells = b.two.spells; is = b.is }
 
   got-cells : (i : ℕ) (h : Head) → Celled text i h → i ≤ length text → h.next ≤ length text → Got text (λ c. (s : ℕ) × CellsLine s c) i h.next
   got-cells i h c l m =
-      record { bytes = c.part; is = (h.many, c.line); here = c.here; end_is = omega (arith, ap length c.here, length-append c.part (drop h.next text), length-drop i text, length-drop h.next text) }
+      record { bytes = c.part; is = (h.many, c.line); here = c.here; end_is = omega (arith, ap length c.here, length_append c.part (drop h.next text), length-drop i text, length-drop h.next text) }
 
-  whole-front : (o : ℕ) (find : List ℕ → Option ℕ) (finds : (k : ℕ) (u : List ℕ) → find u ≡ Some k → AnyName k u × (k < o)) (i left p : ℕ) (E : Ending) (s : Stop) → s.ending ≡ E → Gone text find o finds i false left s → whole_as E s ≡ Err (Shape p) → Front text Bodied i p
-  whole-front o find finds i left p Text s q g e = let z : ◌≡◌ {A = ℕ} 0 1 = cc in absurd (omega arith)
-  whole-front o find finds i left p Else s q g e =
+  whole_front : (o : ℕ) (find : List ℕ → Option ℕ) (finds : (k : ℕ) (u : List ℕ) → find u ≡ Some k → AnyName k u × (k < o)) (i left p : ℕ) (E : Ending) (s : Stop) → s.ending ≡ E → Gone text find o finds i false left s → whole_as E s ≡ Err (Shape p) → Front text Bodied i p
+  whole_front o find finds i left p Text s q g e = let z : ◌≡◌ {A = ℕ} 0 1 = cc in absurd (omega arith)
+  whole_front o find finds i left p Else s q g e =
       let n : s.next - 1 ≡ p = cc in
-      rw (sym n) (lines_then text find o finds i s.pos (s.next - 1) g.lines (word-front text find o finds kw.Else s.pos s.next (rw q at g.ending)))
-  whole-front o find finds i left p End s q g e =
+      rw (sym n) (lines_then text find o finds i s.pos (s.next - 1) g.lines (word_front text find o finds kw.Else s.pos s.next (rw q at g.ending)))
+  whole_front o find finds i left p End s q g e =
       let n : s.next - 1 ≡ p = cc in
-      rw (sym n) (lines_then text find o finds i s.pos (s.next - 1) g.lines (word-front text find o finds kw.End s.pos s.next (rw q at g.ending)))
+      rw (sym n) (lines_then text find o finds i s.pos (s.next - 1) g.lines (word_front text find o finds kw.End s.pos s.next (rw q at g.ending)))
 
   pub read-viable : (p : ℕ) → read_at text ≡ Err (Shape p) → Begun p
   unfolding read_at
   read-viable p e =
       elim (then-fails (own_at text) _ (Shape p) e) [
-        | inl a ↦ own-viable p a
+        | inl a ↦ own_viable p a
         | inr a ↦
             let f = a.0 in
             let w = own-sound text f a.1 in
-            let b = own-within f a.1 in
+            let b = own_within f a.1 in
             let finds : (k : ℕ) (u : List ℕ) → place_in f.names u ≡ Some k → AnyName k u × (k < length f.names) = λ k u q. let n = place-named f.names u k q in (named-name f.names text w.names_in k u n, n.0) in
             viable f.names w.part f.next p w.line w.names_in.names w.here b
             (elim (then-fails (cells_at text f.next) _ (Shape p) a.2) [
-              | inl c ↦ front-map text Cells-text Rest f.next p cells_rest (front-cells f.next p c)
+              | inl c ↦ front_map text CellsText Rest f.next p cells_rest (front-cells f.next p c)
               | inr c ↦
                   let h = c.0 in
                   let d = cells-within f.next h c.1 b in
-                  let k = block-walk text (place_in f.names) (length f.names) finds 1025 16 (1024 - head_lines_spec f.next h.next) h.next false (omega arith) in
-                  front-map text Celled-then Rest f.next p celled-rest
-                  (front-second text (λ c. (s : ℕ) × CellsLine s c) Bodied f.next h.next p (got-cells f.next h (cells-sound text f.next h c.1) b d)
+                  let k = block_walk text (place_in f.names) (length f.names) finds 1025 16 (1024 - head_lines_spec f.next h.next) h.next false (omega arith) in
+                  front_map text CelledThen Rest f.next p celled-rest
+                  (front_second text (λ c. (s : ℕ) × CellsLine s c) Bodied f.next h.next p (got-cells f.next h (cells-sound text f.next h c.1) b d)
                   (elim (then-fails (block_at (place_in f.names) text 1025 16 (1024 - head_lines_spec f.next h.next) h.next false) _ (Shape p) c.2) [
                     | inl m ↦ k.bad p m
                     | inr m ↦
                         elim (then-fails (whole m.0) _ (Shape p) m.2) [
-                          | inl y ↦ whole-front (length f.names) (place_in f.names) finds h.next (1024 - head_lines_spec f.next h.next) p m.0.ending m.0 refl (k.good m.0 m.1) y
+                          | inl y ↦ whole_front (length f.names) (place_in f.names) finds h.next (1024 - head_lines_spec f.next h.next) p m.0.ending m.0 refl (k.good m.0 m.1) y
                           | inr y ↦ let x = y.2 in let z : ◌≡◌ {A = ℕ} 0 1 = cc in absurd (omega arith)
                         ]
                   ]))

@@ -12,7 +12,7 @@ use Rattle.grammar.specs.declared.lines.Lined.{Lined}
 use Rattle.grammar.proofs.Walks.{bytes-more}
 use Rattle.grammar.proofs.Complete.{first_byte, past-byte}
 use Rattle.grammar.proofs.Sound.{cond_cases, then-parts, not_err, same_ok, run-splits, run_length, key-sound}
-use Rattle.grammar.proofs.Goeson.{Agree, agree_less, Same-read}
+use Rattle.grammar.proofs.Goeson.{Agree, agree_less, SameRead}
 use Rattle.grammar.proofs.Goesonexpr.{itself, bytes_same}
 use Rattle.grammar.proofs.Goesonline.{next_of, then-fails, Reach, reach-more, key-same, line-reach-ok, line-reach-err}
 use Rattle.reader.specs.Heads.{is_own_spec, is_cells_spec, names_at, own_at, Found, cells_at}
@@ -25,7 +25,7 @@ use Rattle.reader.specs.declared.blocks.Stop.{Stop}
 use Rattle.reader.specs.declared.texts.Shape.{Shape}
 use Rattle.reader.proofs.Goesonsame.{stop_at, stop_of, block_same, by-kind-same}
 use Rattle.reader.proofs.Goesonclosed.{next-err, next-ok}
-use Rattle.reader.proofs.Goesonlocal.{found_of, head_of, Refused, err-then, names_same, cells-here, cells-here-same, number_at, number_same}
+use Rattle.reader.proofs.Goesonlocal.{found_of, head_of, Refused, err-then, names_same, cells_here, cells-here-same, number_at, number_same}
 
 cells-key : (k : Option Keyword) → is_cells_spec k ≡ true → k ≡ Some kw.Cells
 cells-key None h = let z : ◌≡◌ {A = ℕ} 0 1 = cc in absurd (omega arith)
@@ -138,7 +138,7 @@ module _ (text t : List ℕ) where
   abbrev rest_at : List ℕ → Found → Result Shape Refusal
   rest_at s f = and_then (cells_at s f.next) (λ h. lines_at s f h)
 
-  cells_is : (s : List ℕ) (i : ℕ) → is_cells_spec (key_at s i) ≡ true → cells_at s i ≡ cells-here text t s i
+  cells_is : (s : List ℕ) (i : ℕ) → is_cells_spec (key_at s i) ≡ true → cells_at s i ≡ cells_here text t s i
   unfolding cells_at
   cells_is s i h = rw h refl
 
@@ -146,15 +146,15 @@ module _ (text t : List ℕ) where
   unfolding cells_at
   cells-not s i h = rw h refl
 
-  abbrev Rest-refused : Found → ℕ → Type 0
-  Rest-refused f q = Reach (place_in f.names) text f.next q × (Agree q text t → rest_at t f ≡ Err (No-text q))
+  abbrev RestRefused : Found → ℕ → Type 0
+  RestRefused f q = Reach (place_in f.names) text f.next q × (Agree q text t → rest_at t f ≡ Err (No-text q))
 
-  behind : (f : Found) (q : ℕ) → key_at text f.next ≡ Some kw.Cells → and_then (cells-here text t text f.next) (λ m. lines_at text f m) ≡ Err (No-text q) → ((((f.next + 1) + 1) + 1) + 1) + 1 ≤ q
+  behind : (f : Found) (q : ℕ) → key_at text f.next ≡ Some kw.Cells → and_then (cells_here text t text f.next) (λ m. lines_at text f m) ≡ Err (No-text q) → ((((f.next + 1) + 1) + 1) + 1) + 1 ≤ q
   behind f q k e =
       let i : ℕ = f.next in
       let j : ℕ = ((((i + 1) + 1) + 1) + 1) + 1 in
       let b : bytes_at text (codes "cells ") i ≡ bytes_at text (codes " ") j = five text _ i (key_here text i kw.Cells k) in
-      elim (then-fails (cells-here text t text i) (λ m. lines_at text f m) (No-text q) e) [
+      elim (then-fails (cells_here text t text i) (λ m. lines_at text f m) (No-text q) e) [
         | inl a ↦
             elim (then-fails (bytes_at text (codes "cells ") i) (λ m. number_at text t text i m) (No-text q) a) [
               | inl c ↦ ((bytes_same text text (codes " ") j).err q (sym b ∙ c)).0
@@ -168,25 +168,25 @@ module _ (text t : List ℕ) where
             omega (arith, x, y, z)
       ]
 
-  with_cells : (f : Found) (q : ℕ) → is_cells_spec (key_at text f.next) ≡ true → rest_at text f ≡ Err (No-text q) → Rest-refused f q
+  with_cells : (f : Found) (q : ℕ) → is_cells_spec (key_at text f.next) ≡ true → rest_at text f ≡ Err (No-text q) → RestRefused f q
   with_cells f q h e =
       let i : ℕ = f.next in
       let k : key_at text i ≡ Some kw.Cells = cells-key (key_at text i) h in
-      let e1 : and_then (cells-here text t text i) (λ m. lines_at text f m) ≡ Err (No-text q) = rw (cells_is text i h) at e in
-      let r = err-then text t head_of i q (cells-here text t text i) (cells-here text t t i) (λ m. lines_at text f m) (λ m. lines_at t f m) (cells-here-same text t i)
+      let e1 : and_then (cells_here text t text i) (λ m. lines_at text f m) ≡ Err (No-text q) = rw (cells_is text i h) at e in
+      let r = err-then text t head_of i q (cells_here text t text i) (cells_here text t t i) (λ m. lines_at text f m) (λ m. lines_at t f m) (cells-here-same text t i)
       (λ m _ a. let l = lines-err f m q a in let y : head_of m ≤ q = omega (arith, l.0) in (y, l.1)) e1 in
       let far : ((((i + 1) + 1) + 1) + 1) + 1 ≤ q = behind f q k e1 in
       let rc : Reach (place_in f.names) text i q = inl (omega (arith, key-run text i kw.Cells k)) in
       (rc, λ a. rw (cells_is t i (ap is_cells_spec (key-same (place_in f.names) text t i q rc a) ∙ h)) (r.1 a))
 
-  without-cells : (f : Found) (q : ℕ) → is_cells_spec (key_at text f.next) ≡ false → rest_at text f ≡ Err (No-text q) → Rest-refused f q
+  without-cells : (f : Found) (q : ℕ) → is_cells_spec (key_at text f.next) ≡ false → rest_at text f ≡ Err (No-text q) → RestRefused f q
   without-cells f q h e =
       let i : ℕ = f.next in
       let e1 : lines_at text f (record { many = 0; next = i }) ≡ Err (No-text q) = rw (cells-not text i h) at e in
       let rc = lines-reach f (record { many = 0; next = i }) q e1 in
       (rc, λ a. rw (cells-not t i (ap is_cells_spec (key-same (place_in f.names) text t i q rc a) ∙ h)) ((lines-err f (record { many = 0; next = i }) q e1).1 a))
 
-  rest-err : (f : Found) (q : ℕ) → rest_at text f ≡ Err (No-text q) → Rest-refused f q
+  rest-err : (f : Found) (q : ℕ) → rest_at text f ≡ Err (No-text q) → RestRefused f q
   rest-err f q e = elim (cases_Bool (is_cells_spec (key_at text f.next))) [ inl h ↦ with_cells f q h e | inr h ↦ without-cells f q h e ]
 
   -- the whole text

@@ -1,9 +1,9 @@
 -- Lines that have their shape are never refused for it, and are read to where they end.
 use Rattle.std.proofs.Common.{◌≡◌, ℕ, zero, suc, ◌+◌, ◌-◌, ◌<◌, ◌≤◌, Bool, true, false, cond, ◌&&◌, eqb, leb, ◌≢◌, ◌⊎◌, List, [], ◌∷◌, ◌++◌, length, drop, Ok, Err, codes, Option, Result, sym, refl, ap, ◌∙◌, inl, inr, arith}
-use Rattle.std.proofs.lemmas.List.{append_assoc, length-append, length-drop}
+use Rattle.std.proofs.lemmas.List.{append_assoc, length_append, length-drop}
 use Rattle.std.proofs.lemmas.Bool.{le-leb, lt-leb, eqb-false, cases_Bool}
 use Rattle.lanes.specs.Syntax.{Expr, Body, end, put, read_shared, write_shared, read_all, write_all, barrier, when, while}
-use Rattle.grammar.specs.Spelling.{IsName, Spells-expr, Spells-body, AnyName}
+use Rattle.grammar.specs.Spelling.{IsName, SpellsExpr, SpellsBody, AnyName}
 use Rattle.grammar.specs.Refusals.{place_of}
 use Rattle.grammar.specs.Walk.{key_at, and_then}
 use Rattle.grammar.specs.WalkLine.{line_at}
@@ -62,11 +62,11 @@ module _ (find : List ℕ → Option ℕ) (text : List ℕ) where
   Reads b u =
       (E : Ending) (z w : List ℕ) (f deep left i : ℕ) (some : Bool) → EndsAs E z w → drop i text ≡ u ++ z → left < f → Good (block_at find text f deep left i some) (Stopped E w left b some)
 
-  not-past : (i : ℕ) (t : List ℕ) → drop i text ≡ t → 1 ≤ length t → leb (length text) i ≡ false
-  not-past i t e h = lt-leb (length text) i (omega (arith, ap length e, length-drop i text))
+  not_past : (i : ℕ) (t : List ℕ) → drop i text ≡ t → 1 ≤ length t → leb (length text) i ≡ false
+  not_past i t e h = lt-leb (length text) i (omega (arith, ap length e, length-drop i text))
 
-  at-past : (i : ℕ) → drop i text ≡ [] → leb (length text) i ≡ true
-  at-past i e = le-leb (length text) i (omega (arith, ap length e, length-drop i text))
+  at_past : (i : ℕ) → drop i text ≡ [] → leb (length text) i ≡ true
+  at_past i e = le-leb (length text) i (omega (arith, ap length e, length-drop i text))
 
   many-none : (i : ℕ) (r : Result Lined Refusal) (P Q : Lined → Type 0) → Good r P → Good (too_many i r) Q
   many-none i (Ok l) P Q g = good-other (ManyLines i) Q (no-many i)
@@ -84,11 +84,11 @@ module _ (find : List ℕ → Option ℕ) (text : List ℕ) where
             rw h (good-cond (eqb deep 0 && opens (key_at text i)) (Err (Deep i)) (line_at find text i) (λ l. P l × (0 < left)) (good-other (Deep i) (λ l. P l × (0 < left)) (no-deep i)) (good-weak (line_at find text i) P _ (λ l p. (p, m)) g))
       ]
 
-  block-line : (c : lines.Kind) (n f deep left i : ℕ) (some : Bool) (Q : Stop → Type 0) (t : List ℕ) → drop i text ≡ t → 1 ≤ length t → Good (line_at find text i) (OfKind c n)
+  block_line : (c : lines.Kind) (n f deep left i : ℕ) (some : Bool) (Q : Stop → Type 0) (t : List ℕ) → drop i text ≡ t → 1 ≤ length t → Good (line_at find text i) (OfKind c n)
       → (0 < left → Good (by_kind (block_at find text f) deep left i some (kind_as c) n) Q) → Good (block_at find text (suc f) deep left i some) Q
   unfolding block_at
-  block-line c n f deep left i some Q t e h g k =
-      rw (not-past i t e h)
+  block_line c n f deep left i some Q t e h g k =
+      rw (not_past i t e h)
       (good-then (next_at find text deep left i) _ (λ l. OfKind c n l × (0 < left)) Q (next-right deep left i (OfKind c n) g)
       (λ l p. let q : kind_of_spec l.line ≡ kind_as c = kinds l.line ∙ ap kind_as p.0.0 in rw (q, p.0.1) (k p.1)))
 
@@ -96,11 +96,11 @@ module _ (find : List ℕ → Option ℕ) (text : List ℕ) where
   stop-weak E w m left b x some s h p = record { ending_is = p.ending_is; fewer = omega (arith, p.fewer); rest = p.rest; had = λ _. p.had (inr refl) }
 
   -- a line that stands alone
-  plain-reads : (x b : Body) (u v : List ℕ) → 1 ≤ length u → ((i : ℕ) (z : List ℕ) → drop i text ≡ u ++ z → (n : ℕ) × Good (line_at find text i) (OfKind lines.alone n) × (drop n text ≡ v ++ z)) → Reads b v → Reads x u
-  plain-reads x b u v h g r E z w zero deep left i some q e l = absurd (omega arith)
-  plain-reads x b u v h g r E z w (suc f) deep left i some q e l =
+  plain_reads : (x b : Body) (u v : List ℕ) → 1 ≤ length u → ((i : ℕ) (z : List ℕ) → drop i text ≡ u ++ z → (n : ℕ) × Good (line_at find text i) (OfKind lines.alone n) × (drop n text ≡ v ++ z)) → Reads b v → Reads x u
+  plain_reads x b u v h g r E z w zero deep left i some q e l = absurd (omega arith)
+  plain_reads x b u v h g r E z w (suc f) deep left i some q e l =
       let p = g i z e in
-      block-line lines.alone p.0 f deep left i some (Stopped E w left x some) (u ++ z) e (omega (arith, length-append u z)) p.1
+      block_line lines.alone p.0 f deep left i some (Stopped E w left x some) (u ++ z) e (omega (arith, length_append u z)) p.1
       (λ m. good-weak (block_at find text f deep (left - 1) p.0 true) (Stopped E w (left - 1) b true) (Stopped E w left x some) (λ s. stop-weak E w (left - 1) left b x some s (omega arith))
       (r E z w f deep (left - 1) p.0 true q p.2 (omega arith)))
 
@@ -112,15 +112,15 @@ module _ (find : List ℕ → Option ℕ) (text : List ℕ) where
   end_reads u h End z w zero deep left i some q e l = absurd (omega arith)
   end_reads u h Text z w (suc f) deep left i some q e l =
       let d : drop i text ≡ [] = e ∙ ap (λ t. t ++ z) h ∙ q.0 in
-      rw (at-past i d)
+      rw (at_past i d)
       (good-ok _ (Stopped Text w left end some) (record { ending_is = refl; fewer = omega arith; rest = d ∙ sym q.1; had = λ k. elim k [ inl n ↦ absurd (n refl) | inr y ↦ y ] }))
   end_reads u h Else z w (suc f) deep left i some q e l =
       let d : drop i text ≡ codes "else" ++ (10 ∷ w) = e ∙ ap (λ t. t ++ z) h ∙ q in
-      block-line lines.other ((i + 4) + 1) f deep left i some (Stopped Else w left end some) (codes "else" ++ (10 ∷ w)) d (omega arith) (else-right find text i w d)
+      block_line lines.other ((i + 4) + 1) f deep left i some (Stopped Else w left end some) (codes "else" ++ (10 ∷ w)) d (omega arith) (else-right find text i w d)
       (λ m. good-ok _ (Stopped Else w left end some) (record { ending_is = refl; fewer = omega arith; rest = past-byte text (i + 4) 10 w (past text i (codes "else") (10 ∷ w) d); had = λ k. elim k [ inl n ↦ absurd (n refl) | inr y ↦ y ] }))
   end_reads u h End z w (suc f) deep left i some q e l =
       let d : drop i text ≡ codes "end" ++ (10 ∷ w) = e ∙ ap (λ t. t ++ z) h ∙ q in
-      block-line lines.ends ((i + 3) + 1) f deep left i some (Stopped End w left end some) (codes "end" ++ (10 ∷ w)) d (omega arith) (end-right find text i w d)
+      block_line lines.ends ((i + 3) + 1) f deep left i some (Stopped End w left end some) (codes "end" ++ (10 ∷ w)) d (omega arith) (end-right find text i w d)
       (λ m. good-ok _ (Stopped End w left end some) (record { ending_is = refl; fewer = omega arith; rest = past-byte text (i + 3) 10 w (past text i (codes "end") (10 ∷ w) d); had = λ k. elim k [ inl n ↦ absurd (n refl) | inr y ↦ y ] }))
 
   -- behind the end of an if or a while
@@ -130,7 +130,7 @@ module _ (find : List ℕ → Option ℕ) (text : List ℕ) where
       good-weak (block_at find text f deep m i true) (Stopped E w m b true) (Stopped E w left x some) (λ s. stop-weak E w m left b x some s k) (r E z w f deep m i true q e l)
 
   -- the lines of an if, and of its else
-  if-reads : (x c d b : Body) (e : Expr) (t u cx y v : List ℕ) → Spells-expr AnyName e u → Reads c cx → (((d ≡ end) × (y ≡ [])) ⊎ ((dw : List ℕ) × Reads d dw × (y ≡ codes "else" ++ (10 ∷ dw)))) → Reads b v
+  if-reads : (x c d b : Body) (e : Expr) (t u cx y v : List ℕ) → SpellsExpr AnyName e u → Reads c cx → (((d ≡ end) × (y ≡ [])) ⊎ ((dw : List ℕ) × Reads d dw × (y ≡ codes "else" ++ (10 ∷ dw)))) → Reads b v
       → t ≡ codes "if " ++ (u ++ (10 ∷ (cx ++ (y ++ (codes "end" ++ (10 ∷ v)))))) → Reads x t
   if-reads x c d b e t u cx y v s rc o rb q E z w zero deep left i some ea ei l = absurd (omega arith)
   if-reads x c d b e t u cx y v s rc o rb q E z w (suc f) deep left i some ea ei l =
@@ -139,7 +139,7 @@ module _ (find : List ℕ → Option ℕ) (text : List ℕ) where
       ei ∙ ap (λ k. k ++ z) q ∙ ap (λ k. codes "if " ++ k) (append_assoc u _ z ∙ ap (λ k. u ++ (10 ∷ k)) (append_assoc cx _ z ∙ ap (λ k. cx ++ k) (append_assoc y _ z))) in
       let d1 : drop (((((i + 2) + 1)) + length u) + 1) text ≡ cx ++ (y ++ tail) = past-byte text (((i + 2) + 1) + length u) 10 _ (past text ((i + 2) + 1) u _ (past-byte text (i + 2) 32 _ (past text i (codes "if") _ d0))) in
       let n : ℕ = ((((i + 2) + 1)) + length u) + 1 in
-      block-line lines.opens_if n f deep left i some (Stopped E w left x some) (codes "if " ++ (u ++ (10 ∷ (cx ++ (y ++ tail))))) d0 (omega arith) (if-right find text i u (cx ++ (y ++ tail)) (e, s) d0)
+      block_line lines.opens_if n f deep left i some (Stopped E w left x some) (codes "if " ++ (u ++ (10 ∷ (cx ++ (y ++ tail))))) d0 (omega arith) (if-right find text i u (cx ++ (y ++ tail)) (e, s) d0)
       (λ m. elim o [
         | inl p ↦
             good-then (block_at find text f (deep - 1) (left - 1) n false) _ (Stopped End (v ++ z) (left - 1) c false) (Stopped E w left x some)
@@ -154,7 +154,7 @@ module _ (find : List ℕ → Option ℕ) (text : List ℕ) where
             (λ a2 k2. rw k2.ending_is (go_on x b v E z w f deep left a2.left a2.next some rb ea k2.rest (omega (arith, k.fewer, k2.fewer)) (omega (arith, k.fewer, k2.fewer))))))
       ])
 
-  while-reads : (x c b : Body) (e : Expr) (t u cx v : List ℕ) → Spells-expr AnyName e u → Reads c cx → c ≢ end → Reads b v
+  while-reads : (x c b : Body) (e : Expr) (t u cx v : List ℕ) → SpellsExpr AnyName e u → Reads c cx → c ≢ end → Reads b v
       → t ≡ codes "while " ++ (u ++ (10 ∷ (cx ++ (codes "end" ++ (10 ∷ v))))) → Reads x t
   while-reads x c b e t u cx v s rc ne rb q E z w zero deep left i some ea ei l = absurd (omega arith)
   while-reads x c b e t u cx v s rc ne rb q E z w (suc f) deep left i some ea ei l =
@@ -163,7 +163,7 @@ module _ (find : List ℕ → Option ℕ) (text : List ℕ) where
       ei ∙ ap (λ k. k ++ z) q ∙ ap (λ k. codes "while " ++ k) (append_assoc u _ z ∙ ap (λ k. u ++ (10 ∷ k)) (append_assoc cx _ z)) in
       let n : ℕ = ((((i + 5) + 1)) + length u) + 1 in
       let d1 : drop n text ≡ cx ++ tail = past-byte text (((i + 5) + 1) + length u) 10 _ (past text ((i + 5) + 1) u _ (past-byte text (i + 5) 32 _ (past text i (codes "while") _ d0))) in
-      block-line lines.opens_while n f deep left i some (Stopped E w left x some) (codes "while " ++ (u ++ (10 ∷ (cx ++ tail)))) d0 (omega arith) (while-right find text i u (cx ++ tail) (e, s) d0)
+      block_line lines.opens_while n f deep left i some (Stopped E w left x some) (codes "while " ++ (u ++ (10 ∷ (cx ++ tail)))) d0 (omega arith) (while-right find text i u (cx ++ tail) (e, s) d0)
       (λ m. good-then (block_at find text f (deep - 1) (left - 1) n false) _ (Stopped End (v ++ z) (left - 1) c false) (Stopped E w left x some)
       (rc End tail (v ++ z) f (deep - 1) (left - 1) n false refl d1 (omega arith))
       (λ a k. rw (k.ending_is, k.had (inl ne)) (go_on x b v E z w f deep left a.left a.next some rb ea k.rest (omega (arith, k.fewer)) (omega (arith, k.fewer)))))
@@ -171,11 +171,11 @@ module _ (find : List ℕ → Option ℕ) (text : List ℕ) where
   four : (a c u v z : List ℕ) → (a ++ (c ++ (u ++ (10 ∷ v)))) ++ z ≡ a ++ (c ++ (u ++ (10 ∷ (v ++ z))))
   four a c u v z = append_assoc a _ z ∙ ap (λ k. a ++ k) (append_assoc c _ z ∙ ap (λ k. c ++ k) (append_assoc u _ z))
 
-  pub body_reads : (b : Body) (t : List ℕ) → Spells-body AnyName b t → Reads b t
-  unfolding Spells-body
+  pub body_reads : (b : Body) (t : List ℕ) → SpellsBody AnyName b t → Reads b t
+  unfolding SpellsBody
   body_reads end t s = end_reads t s
   body_reads (put k e b) t (a, u, v, h, s, r, q) =
-      plain-reads (put k e b) b t v (omega (arith, ap length q, length-append a (codes " = " ++ (u ++ (10 ∷ v))), h.some))
+      plain_reads (put k e b) b t v (omega (arith, ap length q, length_append a (codes " = " ++ (u ++ (10 ∷ v))), h.some))
       (λ i z d. let x : drop i text ≡ a ++ (codes " = " ++ (u ++ (10 ∷ (v ++ z)))) = d ∙ ap (λ m. m ++ z) q ∙ four a (codes " = ") u v z in (
         (((i + length a) + 3) + length u) + 1,
         put-line-right find text i a u (v ++ z) h (e, s) x,
@@ -183,7 +183,7 @@ module _ (find : List ℕ → Option ℕ) (text : List ℕ) where
       ))
       (body_reads b v r)
   body_reads (read_shared k e b) t (a, u, v, h, s, r, q) =
-      plain-reads (read_shared k e b) b t v (omega (arith, ap length q, length-append a (codes " = cell " ++ (u ++ (10 ∷ v))), h.some))
+      plain_reads (read_shared k e b) b t v (omega (arith, ap length q, length_append a (codes " = cell " ++ (u ++ (10 ∷ v))), h.some))
       (λ i z d. let x : drop i text ≡ a ++ (codes " = cell " ++ (u ++ (10 ∷ (v ++ z)))) = d ∙ ap (λ m. m ++ z) q ∙ four a (codes " = cell ") u v z in (
         (((((i + length a) + 3) + 4) + 1) + length u) + 1,
         read-cell-right find text i a u (v ++ z) h (e, s) x,
@@ -191,7 +191,7 @@ module _ (find : List ℕ → Option ℕ) (text : List ℕ) where
       ))
       (body_reads b v r)
   body_reads (read_all k e b) t (a, u, v, h, s, r, q) =
-      plain-reads (read_all k e b) b t v (omega (arith, ap length q, length-append a (codes " = field " ++ (u ++ (10 ∷ v))), h.some))
+      plain_reads (read_all k e b) b t v (omega (arith, ap length q, length_append a (codes " = field " ++ (u ++ (10 ∷ v))), h.some))
       (λ i z d. let x : drop i text ≡ a ++ (codes " = field " ++ (u ++ (10 ∷ (v ++ z)))) = d ∙ ap (λ m. m ++ z) q ∙ four a (codes " = field ") u v z in (
         (((((i + length a) + 3) + 5) + 1) + length u) + 1,
         read-field-right find text i a u (v ++ z) h (e, s) x,
@@ -199,7 +199,7 @@ module _ (find : List ℕ → Option ℕ) (text : List ℕ) where
       ))
       (body_reads b v r)
   body_reads (write_shared e g b) t (u, y, v, s, p, r, q) =
-      plain-reads (write_shared e g b) b t v (omega (arith, ap length q))
+      plain_reads (write_shared e g b) b t v (omega (arith, ap length q))
       (λ i z d. let x : drop i text ≡ codes "cell " ++ (u ++ (codes " = " ++ (y ++ (10 ∷ (v ++ z))))) = d ∙ ap (λ m. m ++ z) q ∙ ap (λ m. codes "cell " ++ m) (four u (codes " = ") y v z) in (
         (((((i + 4) + 1) + length u) + 3) + length y) + 1,
         write-cell-right find text i u y (v ++ z) (e, s) (g, p) x,
@@ -207,7 +207,7 @@ module _ (find : List ℕ → Option ℕ) (text : List ℕ) where
       ))
       (body_reads b v r)
   body_reads (write_all e g b) t (u, y, v, s, p, r, q) =
-      plain-reads (write_all e g b) b t v (omega (arith, ap length q))
+      plain_reads (write_all e g b) b t v (omega (arith, ap length q))
       (λ i z d. let x : drop i text ≡ codes "field " ++ (u ++ (codes " = " ++ (y ++ (10 ∷ (v ++ z))))) = d ∙ ap (λ m. m ++ z) q ∙ ap (λ m. codes "field " ++ m) (four u (codes " = ") y v z) in (
         (((((i + 5) + 1) + length u) + 3) + length y) + 1,
         write-field-right find text i u y (v ++ z) (e, s) (g, p) x,
@@ -215,7 +215,7 @@ module _ (find : List ℕ → Option ℕ) (text : List ℕ) where
       ))
       (body_reads b v r)
   body_reads (barrier b) t (v, r, q) =
-      plain-reads (barrier b) b t v (omega (arith, ap length q))
+      plain_reads (barrier b) b t v (omega (arith, ap length q))
       (λ i z d. let x : drop i text ≡ codes "barrier" ++ (10 ∷ (v ++ z)) = d ∙ ap (λ m. m ++ z) q in
       ((i + 7) + 1, barrier-right find text i (v ++ z) x, past-byte text (i + 7) 10 _ (past text i (codes "barrier") _ x)))
       (body_reads b v r)

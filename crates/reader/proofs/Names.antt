@@ -8,7 +8,7 @@ use Rattle.grammar.specs.Walk.{word_part, key_at, key_of, bytes_at, number_part,
 use Rattle.grammar.specs.declared.refusals.Refusal.{Refusal}
 use Rattle.grammar.specs.declared.refusals.Refusal.TheVariants.{Shape, Twice, ManyNames, ManyCells, Long}
 use Rattle.grammar.specs.declared.keywords.Keyword.{Keyword}
-use Rattle.grammar.proofs.Walks.{Keyed, key-is, word-end-run}
+use Rattle.grammar.proofs.Walks.{Keyed, key_is, word-end-run}
 use Rattle.reader.specs.Heads.{is_key, is_own_spec, is_cells_spec, name_at, names_at, own_at, Found, counted, cells_at}
 use Rattle.reader.specs.declared.heads.Head.{Head}
 
@@ -21,9 +21,9 @@ module _ (seen : List (List ℕ)) (text : List ℕ) (i : ℕ) where
     run : r ≡ i + run_of word_byte (drop i text)
     run = word-end-run text i r w
 
-    pub name-long : 8 < r - i → Err (Shape (i + 8)) ≡ name_at seen text i
+    pub name_long : 8 < r - i → Err (Shape (i + 8)) ≡ name_at seen text i
     unfolding name_at
-    name-long l = rw (h, le-leb 9 (run_of word_byte (drop i text)) (omega (arith, run))) refl
+    name_long l = rw (h, le-leb 9 (run_of word_byte (drop i text)) (omega (arith, run))) refl
 
     module _ (l : r - i ≤ 8) where
       short : leb 9 (run_of word_byte (drop i text)) ≡ false
@@ -33,7 +33,7 @@ module _ (seen : List (List ℕ)) (text : List ℕ) (i : ℕ) where
       part = ap (λ m. take m (drop i text)) (omega (arith, run))
 
       key : (k : Option Keyword) → Keyed (take (r - i) (drop i text)) k → k ≡ key_at text i
-      key k q = key-is (take (r - i) (drop i text)) k q ∙ ap key_of part
+      key k q = key_is (take (r - i) (drop i text)) k q ∙ ap key_of part
 
       pub name-key : (k : Keyword) → Keyed (take (r - i) (drop i text)) (Some k) → Err (Shape r) ≡ name_at seen text i
       unfolding name_at

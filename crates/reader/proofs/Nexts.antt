@@ -88,14 +88,14 @@ end-as End s e h = same_ok e s h
 pub end-left : (s e : Stop) → Ok e ≡ must_end_spec s → e.left ≡ s.left
 end-left s e h = ap (λ m. m.left) (end-as s.ending s e h)
 
-loop-some : (b : Bool) (s e : Stop) (d : Refusal) → Ok e ≡ cond b (Ok s) (Err d) → (e ≡ s) × (b ≡ true)
-loop-some true s e d h = (same_ok e s h, refl)
-loop-some false s e d h = absurd (not-ok e d h)
+loop_some : (b : Bool) (s e : Stop) (d : Refusal) → Ok e ≡ cond b (Ok s) (Err d) → (e ≡ s) × (b ≡ true)
+loop_some true s e d h = (same_ok e s h, refl)
+loop_some false s e d h = absurd (not-ok e d h)
 
 loop-as : (g : Ending) (s e : Stop) → Ok e ≡ must_loop_as g s → e ≡ s
 loop-as Text s e h = absurd (not-ok e _ h)
 loop-as Else s e h = absurd (not-ok e _ h)
-loop-as End s e h = (loop-some s.some s e _ h).0
+loop-as End s e h = (loop_some s.some s e _ h).0
 
 pub loop-left : (s e : Stop) → Ok e ≡ must_loop_spec s → e.left ≡ s.left
 loop-left s e h = ap (λ m. m.left) (loop-as s.ending s e h)

@@ -1,7 +1,7 @@
 -- A text that is read: its program, and the limits that it keeps.
 use Rattle.std.specs.Prelude.{◌≡◌, ℕ, ◌+◌, ◌-◌, Bool, true, false, cond, List, [], ◌∷◌, ◌++◌, length, drop, Ok, Err, Result, nat_lt}
 use Rattle.lanes.specs.Syntax.{Program}
-use Rattle.grammar.specs.Spelling.{Spells-body, Named}
+use Rattle.grammar.specs.Spelling.{SpellsBody, Named}
 use Rattle.grammar.specs.Taken.{Taken, lines_in}
 use Rattle.grammar.specs.Walk.{and_then, place_in}
 use Rattle.grammar.specs.declared.refusals.Refusal.{Refusal}
@@ -22,7 +22,7 @@ pub record ReadAs (text : List ℕ) (s : Shape) : Type 0 where
   pub owns : program.owns ≡ s.owns
   pub cells : program.shared ≡ s.cells
   pub lines : lines_in text ≡ s.lines
-  pub body : Spells-body (Named names) program.body (drop s.body_at text)
+  pub body : SpellsBody (Named names) program.body (drop s.body_at text)
   pub first : lines_in text ≡ s.first + lines_in (drop s.body_at text)
 
 -- If the text is a program within the limits, under any names, it is not refused.

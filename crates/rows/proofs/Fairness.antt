@@ -10,7 +10,7 @@ use Rattle.code.specs.Settle.{Leads}
 use Rattle.code.specs.Joins.{is_branch, JoinsAt, Regions}
 use Rattle.joins.specs.declared.Join.{Join}
 use Rattle.joins.specs.Stack.{down_from, leaves}
-use Rattle.joins.specs.Story.{Story, Event, did, parted, went, passed, place, partings, Open, leave, open_joins, topmost, OwnJoin, Has-come, Held, Could-step, Do-line, Fair, Fair-did, Fair-parted, Fair-went, Falls, Sound, Kept, is_act_spec}
+use Rattle.joins.specs.Story.{Story, Event, did, parted, went, passed, place, partings, Open, leave, open_joins, topmost, OwnJoin, HasCome, Held, CouldStep, DoLine, Fair, FairDid, FairParted, FairWent, Falls, Sound, Kept, is_act_spec}
 use Rattle.joins.specs.Matched.{AreOpen, IsOpen, open_at, LeftByPlace}
 use Rattle.joins.proofs.Leaves.{top-has}
 use Rattle.joins.proofs.Stacklists.{down-length}
@@ -50,10 +50,10 @@ module _ (code : ℕ → Step) (lines w : ℕ) (h : Story) (f : ℕ → Join) (n
   newest-within k i a = lanes-within k i a.there a.has
 
   -- a lane that has come to a join stands where the newest join of the stack that has it joins, and the other way round
-  come-newest : (q i : ℕ) → Has-come code h q i → (k : ℕ) × Newest f n k i × (p i ≡ (f k).line) × (q ≡ (open_at (open_joins h) k).number)
+  come-newest : (q i : ℕ) → HasCome code h q i → (k : ℕ) × Newest f n k i × (p i ≡ (f k).line) × (q ≡ (open_at (open_joins h) k).number)
   come-newest q i c = let t = place-come code f lines n q i h reg m c in (t.0, t.1, sym (stand i (newest-within t.0 i t.1)) ∙ t.2, t.3)
 
-  newest-come : (k i : ℕ) → Newest f n k i → p i ≡ (f k).line → Has-come code h (open_at (open_joins h) k).number i
+  newest-come : (k i : ℕ) → Newest f n k i → p i ≡ (f k).line → HasCome code h (open_at (open_joins h) k).number i
   newest-come k i a e = come-place code f n k i h m a (stand i (newest-within k i a) ∙ e)
 
   pub held_at : (i : ℕ) → Held code h i → HeldAt f n p i
@@ -98,20 +98,20 @@ module _ (code : ℕ → Step) (lines w : ℕ) (h : Story) (f : ℕ → Join) (n
           | inr e ↦ some-on mask e.some
         ]
 
-    together : (i : ℕ) → Has-come code h (open_at (open_joins h) k).number i → on mask i ≡ true
+    together : (i : ℕ) → HasCome code h (open_at (open_joins h) k).number i → on mask i ≡ true
     together i c =
         let t = come-newest (open_at (open_joins h) k).number i c in
         let e = same_place t.0 k t.1.there l.there (sym t.3) in
         l.all_come i (subst (λ (v : ℕ). Newest f n v i) e t.1) (subst (λ (v : ℕ). p i ≡ (f v).line) e t.2)
 
-    newest : ((j i : ℕ) → Newest f n j i → p i ≡ (f j).line → j ≤ k) → (q i : ℕ) → Has-come code h q i → q ≤ (open_at (open_joins h) k).number
+    newest : ((j i : ℕ) → Newest f n j i → p i ≡ (f j).line → j ≤ k) → (q i : ℕ) → HasCome code h q i → q ≤ (open_at (open_joins h) k).number
     newest none q i c =
         let t = come-newest q i c in
         let r = no-newer t.0 k l.there (none t.0 i t.1 t.2) in
         let e = t.3 in
         omega arith
 
-    pub fair-went : Fair-went code w h (open_at (open_joins h) k).number mask
+    pub fair-went : FairWent code w h (open_at (open_joins h) k).number mask
     fair-went =
         record {
           some = some;
@@ -143,7 +143,7 @@ module _ (code : ℕ → Step) (lines w : ℕ) (h : Story) (f : ℕ → Join) (n
 
   -- a party does its line
   module _ (q : Party) (inside : Option ℕ) (d : RowDoes code w p f n q inside) (to : ℕ → ℕ) (leads : (i : ℕ) → on q.mask i ≡ true → Leads code q.line (to i)) where
-    do-line : Do-line code w h q.mask q.line to
+    do-line : DoLine code w h q.mask q.line to
     do-line =
         record {
           some = some-on q.mask d.some;
@@ -157,7 +157,7 @@ module _ (code : ℕ → Step) (lines w : ℕ) (h : Story) (f : ℕ → Join) (n
               };
         }
 
-    pub fair-did : opens (code q.line) inside q.line ≡ false → Fair-did code w h q.mask q.line to
+    pub fair-did : opens (code q.line) inside q.line ≡ false → FairDid code w h q.mask q.line to
     fair-did e =
         record {
           lanes = do-line;
@@ -167,7 +167,7 @@ module _ (code : ℕ → Step) (lines w : ℕ) (h : Story) (f : ℕ → Join) (n
               (s.0, λ i o. own-there i q.line inside (d.in_branch i o) s.1);
         }
 
-    pub fair-parted : opens (code q.line) inside q.line ≡ true → Fair-parted code w h q.mask q.line to
+    pub fair-parted : opens (code q.line) inside q.line ≡ true → FairParted code w h q.mask q.line to
     fair-parted e =
         record {
           lanes = do-line;

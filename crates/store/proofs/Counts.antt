@@ -79,12 +79,12 @@ without-else h k l ne = rw (ne_eqb l k ne)
 
 -- of those of a row of which m says so, none was so before, and some are so now; of all others it is so as it was
 module _ (n start : ℕ) (m : ℕ → Bool) where
-  abbrev pub Row-counts : (ℕ → Bool) → (ℕ → Bool) → ℕ → Type 0
-  Row-counts f h i =
+  abbrev pub RowCounts : (ℕ → Bool) → (ℕ → Bool) → ℕ → Type 0
+  RowCounts f h i =
       ((j : ℕ) → j < i → m j ≡ true → start + j < n) → ((j : ℕ) → j < i → m j ≡ true → f (start + j) ≡ false) →
       ((l : ℕ) → l < n → ((j : ℕ) → l ≡ start + j → j < i → m j ≡ true → ⊥) → h l ≡ f l) → how_many h n ≡ how_many f n + how_many (λ j. m j && h (start + j)) i
 
-  module _ (i : ℕ) (before : (f h : ℕ → Bool) → Row-counts f h i) (f h : ℕ → Bool) (there : (j : ℕ) → j < suc i → m j ≡ true → start + j < n)
+  module _ (i : ℕ) (before : (f h : ℕ → Bool) → RowCounts f h i) (f h : ℕ → Bool) (there : (j : ℕ) → j < suc i → m j ≡ true → start + j < n)
       (off : (j : ℕ) → j < suc i → m j ≡ true → f (start + j) ≡ false) (same : (l : ℕ) → l < n → ((j : ℕ) → l ≡ start + j → j < suc i → m j ≡ true → ⊥) → h l ≡ f l) where
     other : (l : ℕ) → l < n → (l ≡ start + i → ⊥) → ((j : ℕ) → l ≡ start + j → j < i → m j ≡ true → ⊥) → h l ≡ f l
     other l k q ne = same l k (λ j x y o. ne j x (elim (cases_eq j i) [ inl r ↦ absurd (q (rw r at x)) | inr r ↦ omega arith ]) o)
@@ -120,7 +120,7 @@ module _ (n start : ℕ) (m : ℕ → Bool) where
       | inr a ↦ stays (λ t. absurd (both_ways (m i) a t)) (rw a)
     ]
 
-  pub many-row : (i : ℕ) (f h : ℕ → Bool) → Row-counts f h i
+  pub many-row : (i : ℕ) (f h : ℕ → Bool) → RowCounts f h i
   unfolding how_many
   many-row zero f h there off same = many-same f h n (λ l k. same l k (λ j _ x _. absurd (omega arith))) ∙ sym (add-zero (how_many f n))
   many-row (suc i) f h there off same = row_step i (many-row i) f h there off same

@@ -48,21 +48,21 @@ up : (m : Mark) (a t : Who) → Under m a → a.group ≡ t.group → a.phase < 
 up m a t u e l = let p = u.group in let q = u.phase in record { group = p ∙ e; phase = omega arith; lane = λ s. absurd (let z : ◌<◌ 0 0 = omega arith in omega arith) }
 
 module _ (w c : ℕ) (ms : List Mark) (t : Who) (rise : Rising ms (mark_of w c t false)) where
-  abbrev now-kept : Readers → Type 0
-  now-kept = ReadersKept w c (more ms (mark_of w c t false))
+  abbrev now_kept : Readers → Type 0
+  now_kept = ReadersKept w c (more ms (mark_of w c t false))
 
-  only : ((m : Mark) → Was w c ms false m → Under m t) → now-kept (One t)
+  only : ((m : Mark) → Was w c ms false m → Under m t) → now_kept (One t)
   only old = (newest _ ms, λ m was. elim (newer w c ms (mark_of w c t false) m false was) [ inl e ↦ under-self w c t false m e | inr o ↦ old m o ])
 
-  one_more : (a : Who) → ReadersKept w c ms (One a) → now-kept (joined_of (One a) t)
+  one_more : (a : Who) → ReadersKept w c ms (One a) → now_kept (joined_of (One a) t)
   one_more a kept =
-      cond_both (not (eqb a.group t.group)) _ _ (λ (ch : Change). now-kept (changed ch (One a) t)) (λ h. (further _ _ ms kept.0, newest _ ms, inl (λ e. let z : ◌≡◌ {A = ℕ} 0 1 = grind (arith, nat_tests) in omega arith)))
+      cond_both (not (eqb a.group t.group)) _ _ (λ (ch : Change). now_kept (changed ch (One a) t)) (λ h. (further _ _ ms kept.0, newest _ ms, inl (λ e. let z : ◌≡◌ {A = ℕ} 0 1 = grind (arith, nat_tests) in omega arith)))
       (λ h. let same : a.group ≡ t.group = grind (arith, nat_tests) in
       let upto : a.phase ≤ t.phase = risen w c ms t false rise a false kept.0 same in
-      cond_both (ltb a.phase t.phase) _ _ (λ (ch : Change). now-kept (changed ch (One a) t))
+      cond_both (ltb a.phase t.phase) _ _ (λ (ch : Change). now_kept (changed ch (One a) t))
       (λ k. let lt : a.phase < t.phase = grind (arith, nat_tests) in only (λ m was. up m a t (kept.1 m was) same lt))
       (λ k. let ge : a.phase ≡ t.phase = grind (arith, nat_tests) in
-      cond_both (eqb a.lane t.lane) _ _ (λ (ch : Change). now-kept (changed ch (One a) t))
+      cond_both (eqb a.lane t.lane) _ _ (λ (ch : Change). now_kept (changed ch (One a) t))
       (λ j. let el : a.lane ≡ t.lane = grind (arith, nat_tests) in (
         further _ _ ms kept.0,
         λ m was. elim (newer w c ms (mark_of w c t false) m false was)
@@ -80,15 +80,15 @@ module _ (w c : ℕ) (ms : List Mark) (t : Who) (rise : Rising ms (mark_of w c t
         ),
       ))))
 
-  two-more : (a b : Who) → ReadersKept w c ms (Two a b) → now-kept (joined_of (Two a b) t)
+  two-more : (a b : Who) → ReadersKept w c ms (Two a b) → now_kept (joined_of (Two a b) t)
   two-more a b kept =
-      cond_both (not (eqb a.group b.group)) _ _ (λ (ch : Change). now-kept (changed ch (Two a b) t))
+      cond_both (not (eqb a.group b.group)) _ _ (λ (ch : Change). now_kept (changed ch (Two a b) t))
       (λ h. (further _ _ ms kept.0, further _ _ ms kept.1, inl (λ e. let z : ◌≡◌ {A = ℕ} 0 1 = grind (arith, nat_tests) in omega arith)))
       (λ h. let pair : a.group ≡ b.group = grind (arith, nat_tests) in
-      cond_both (not (eqb a.group t.group)) _ _ (λ (ch : Change). now-kept (changed ch (Two a b) t))
+      cond_both (not (eqb a.group t.group)) _ _ (λ (ch : Change). now_kept (changed ch (Two a b) t))
       (λ i. (further _ _ ms kept.0, newest _ ms, inl (λ e. let z : ◌≡◌ {A = ℕ} 0 1 = grind (arith, nat_tests) in omega arith)))
       (λ i. let same : a.group ≡ t.group = grind (arith, nat_tests) in
-      cond_both (ltb a.phase t.phase) _ _ (λ (ch : Change). now-kept (changed ch (Two a b) t))
+      cond_both (ltb a.phase t.phase) _ _ (λ (ch : Change). now_kept (changed ch (Two a b) t))
       (λ k. let lt : a.phase < t.phase = grind (arith, nat_tests) in
       only (λ m was. elim kept.2 [
         | inl ne ↦ absurd (ne pair)
@@ -103,7 +103,7 @@ module _ (w c : ℕ) (ms : List Mark) (t : Who) (rise : Rising ms (mark_of w c t
         ],
       ))))
 
-  more-readers : (k : Readers) → ReadersKept w c ms k → now-kept (joined_of k t)
+  more-readers : (k : Readers) → ReadersKept w c ms k → now_kept (joined_of k t)
   more-readers Nobody kept = only (λ m was. absurd (kept m was))
   more-readers (One a) kept = one_more a kept
   more-readers (Two a b) kept = two-more a b kept

@@ -1,10 +1,10 @@
 -- Two expressions in a bracket: where they stand, and what the bracket is worth.
 use Rattle.std.proofs.Common.{◌≡◌, ℕ, zero, suc, ◌+◌, ◌-◌, ◌<◌, ◌≤◌, ◌≢◌, List, [], ◌∷◌, ◌++◌, length, get_or, take, drop, sym, refl, ap, ◌∙◌, subst, inl, inr, append_assoc, add_assoc, arith}
-use Rattle.std.proofs.lemmas.List.{length-append, drop-drop, drop_at}
+use Rattle.std.proofs.lemmas.List.{length_append, drop-drop, drop_at}
 use Rattle.std.proofs.lemmas.Bool.Decides.{nat_tests}
 use Rattle.lanes.specs.Syntax.{Expr}
 use Rattle.lanes.specs.Step.{value}
-use Rattle.grammar.specs.Spelling.{Named, Spells-expr, infix_of}
+use Rattle.grammar.specs.Spelling.{Named, SpellsExpr, infix_of}
 use Rattle.grammar.specs.Stands.{Stands}
 use Rattle.grammar.specs.Names.{NamesIn, Distinct}
 use Rattle.grammar.proofs.Scanned.{behind-part}
@@ -42,13 +42,13 @@ module _ (ns : List (List ℕ)) (text : List ℕ) (n : NamesIn ns text) (i : ℕ
   pub at_left : drop (i + 1) text ≡ h.u ++ (32 ∷ byte_of h.op ∷ 32 ∷ (h.v ++ (41 ∷ s.behind)))
   at_left = sym (drop-drop 1 i text) ∙ ap (λ t. drop 1 t) opened
 
-  abbrev pub stands-left : Stands (Named ns) text (i + 1) h.left
-  stands-left = record { spelling = h.u; behind = 32 ∷ byte_of h.op ∷ 32 ∷ (h.v ++ (41 ∷ s.behind)); spells = h.spells_left; here = at_left; apart = refl }
+  abbrev pub stands_left : Stands (Named ns) text (i + 1) h.left
+  stands_left = record { spelling = h.u; behind = 32 ∷ byte_of h.op ∷ 32 ∷ (h.v ++ (41 ∷ s.behind)); spells = h.spells_left; here = at_left; apart = refl }
 
   pub long : length s.spelling ≡ length h.u + length h.v + 5
   long =
       ap length h.whole
-      ∙ ap suc (length-append h.u (32 ∷ byte_of h.op ∷ 32 ∷ (h.v ++ (41 ∷ []))) ∙ ap (λ m. length h.u + suc (suc (suc m))) (length-append h.v (41 ∷ [])))
+      ∙ ap suc (length_append h.u (32 ∷ byte_of h.op ∷ 32 ∷ (h.v ++ (41 ∷ []))) ∙ ap (λ m. length h.u + suc (suc (suc m))) (length_append h.v (41 ∷ [])))
       ∙ omega arith
 
   module _ (mid : ℕ) (is : mid ≡ (i + 1) + length h.u) where
@@ -58,8 +58,8 @@ module _ (ns : List (List ℕ)) (text : List ℕ) (n : NamesIn ns text) (i : ℕ
     pub op-byte : get_or text (mid + 1) 0 ≡ byte_of h.op
     op-byte = ap (λ m. get_or text m 0) (omega (arith, is)) ∙ behind-part text h.u _ (i + 1) 1 at_left
 
-    abbrev pub stands-right : Stands (Named ns) text (mid + 3) h.right
-    stands-right = record { spelling = h.v; behind = 41 ∷ s.behind; spells = h.spells_right; here = sym (drop-drop 3 mid text) ∙ ap (λ t. drop 3 t) at_mid; apart = refl }
+    abbrev pub stands_right : Stands (Named ns) text (mid + 3) h.right
+    stands_right = record { spelling = h.v; behind = 41 ∷ s.behind; spells = h.spells_right; here = sym (drop-drop 3 mid text) ∙ ap (λ t. drop 3 t) at_mid; apart = refl }
 
 module _ (text : List ℕ) (i : ℕ) (own : List ℕ) (r : Row) (out : List ℕ) (mid : ℕ) (bracket : get_or text i 0 ≡ 40) (one : Evaluated text (i + 1) own r out mid) where
   module _ (ns : List (List ℕ)) (n : NamesIn ns text) (di : Distinct ns) (le : length ns ≤ r.owns) (e : Expr) (s : Stands (Named ns) text i e) where
@@ -67,7 +67,7 @@ module _ (text : List ℕ) (i : ℕ) (own : List ℕ) (r : Row) (out : List ℕ)
     parts = halves ns e s.spelling s.spells (is-bracket ns text n i e s bracket)
 
     mid-is : mid ≡ (i + 1) + length parts.u
-    mid-is = one.stop ns n di le parts.left (stands-left ns text n i e s parts)
+    mid-is = one.stop ns n di le parts.left (stands_left ns text n i e s parts)
 
     whole_is : i + length s.spelling ≡ ((mid + 3) + length parts.v) + 1
     whole_is = omega (arith, mid-is, long ns text n i e s parts)
@@ -101,15 +101,15 @@ module _ (text : List ℕ) (i : ℕ) (own : List ℕ) (r : Row) (out : List ℕ)
 
   module _ (right : List ℕ) (end : ℕ) (op : Op) (all : List ℕ) (is : byte_of op ≡ get_or text (mid + 1) 0) (room : mid + 3 ≤ length text) (two : Evaluated text (mid + 3) own r right end) (wide : length right ≡ length out) (done : Applied op out right all) where
     end_is : (ns : List (List ℕ)) (n : NamesIn ns text) (di : Distinct ns) (le : length ns ≤ r.owns) (e : Expr) (s : Stands (Named ns) text i e) → end ≡ (mid + 3) + length (parts ns n di le e s).v
-    end_is ns n di le e s = two.stop ns n di le (parts ns n di le e s).right (stands-right ns text n i e s (parts ns n di le e s) mid (mid-is ns n di le e s))
+    end_is ns n di le e s = two.stop ns n di le (parts ns n di le e s).right (stands_right ns text n i e s (parts ns n di le e s) mid (mid-is ns n di le e s))
 
     worth : (ns : List (List ℕ)) (n : NamesIn ns text) (di : Distinct ns) (le : length ns ≤ r.owns) (e : Expr) (s : Stands (Named ns) text i e) → Values r own e all
     unfolding Values
     worth ns n di le e s k hk v o =
         let p = parts ns n di le e s in
         let val : Expr → ℕ = value v (r.first + k) r.group r.lanes in
-        let a : get_or out k 0 ≡ val p.left = one.each ns n di le p.left (stands-left ns text n i e s p) k (omega (arith, done.long)) v o in
-        let b : get_or right k 0 ≡ val p.right = two.each ns n di le p.right (stands-right ns text n i e s p mid (mid-is ns n di le e s)) k (omega (arith, done.long)) v o in
+        let a : get_or out k 0 ≡ val p.left = one.each ns n di le p.left (stands_left ns text n i e s p) k (omega (arith, done.long)) v o in
+        let b : get_or right k 0 ≡ val p.right = two.each ns n di le p.right (stands_right ns text n i e s p mid (mid-is ns n di le e s)) k (omega (arith, done.long)) v o in
         done.each k (omega (arith, done.long)) (omega (arith, done.long))
         ∙ ap (λ x. op_of op x (get_or right k 0)) a ∙ ap (λ y. op_of op (val p.left) y) b
         ∙ ap (λ q. op_of q (val p.left) (val p.right)) (op-is ns n di le e s op is)

@@ -40,11 +40,11 @@ module _ (a c q : ℕ) (some : 1 ≤ c) (near : Near a c q) where
   pub quotient-next : c ≤ a - q * c → q + 1 ≡ quotient_of a c
   quotient-next h = let lo = near.below in let hi = near.above in let e = more in let f = more-2 in sym (quotient_is (q + 1) (omega arith) (omega arith))
 
-  rest-is : (k : ℕ) → k * c ≤ a → a < (k + 1) * c → remainder_of a c ≡ a - k * c
-  rest-is k lo hi = cond-false _ _ _ (ne_eqb c 0 (λ e. omega arith)) ∙ (mod-eq-sub-div-mul a c ∙ ap (λ (x : ℕ). a - x * c) (div-eq_of_lt-le c lo hi))
+  rest_is : (k : ℕ) → k * c ≤ a → a < (k + 1) * c → remainder_of a c ≡ a - k * c
+  rest_is k lo hi = cond-false _ _ _ (ne_eqb c 0 (λ e. omega arith)) ∙ (mod-eq-sub-div-mul a c ∙ ap (λ (x : ℕ). a - x * c) (div-eq_of_lt-le c lo hi))
 
   pub rest-here : a - q * c < c → a - q * c ≡ remainder_of a c
-  rest-here h = let lo = near.below in let e = more in sym (rest-is q lo (omega arith))
+  rest-here h = let lo = near.below in let e = more in sym (rest_is q lo (omega arith))
 
   pub rest-next : c ≤ a - q * c → a - q * c - c ≡ remainder_of a c
-  rest-next h = let lo = near.below in let hi = near.above in let e = more in let f = more-2 in let r = rest-is (q + 1) (omega arith) (omega arith) in omega arith
+  rest-next h = let lo = near.below in let hi = near.above in let e = more in let f = more-2 in let r = rest_is (q + 1) (omega arith) (omega arith) in omega arith

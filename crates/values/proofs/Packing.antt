@@ -16,7 +16,7 @@ use Rattle.values.specs.Worth.{simple, LeafAt}
 use Rattle.values.specs.Items.{item_of, LeafHere, Coded, Packed}
 use Rattle.values.proofs.Spelt.{Halves, halves}
 use Rattle.values.proofs.Standing.{is-bracket, word-stop, word-leaf, leaf-more}
-use Rattle.values.proofs.Bracketed.{same_op, stands-left, stands-right, op-byte, long}
+use Rattle.values.proofs.Bracketed.{same_op, stands_left, stands_right, op-byte, long}
 use Rattle.values.proofs.Coding.{here_on, coded-leaf, coded-node, coded_kept}
 
 pub packed-word : (text : List ℕ) (i : ℕ) (ws : List ℕ) (from j k : ℕ) (leaf : Leaf) → get_or text i 0 ≢ 40 → WordEnd text i j → i ≤ length text → LeafAt simple text (between i j text) leaf → LeafHere ws from leaf k →
@@ -38,11 +38,11 @@ module _ (text : List ℕ) (i : ℕ) (ws xs : List ℕ) (from w : ℕ) (op : Op)
     parts = halves ns e s.spelling s.spells (is-bracket ns text n i e s bracket)
 
     mid-is : left.byte ≡ (i + 1) + length parts.u
-    mid-is = one.stop ns n di parts.left (stands-left ns text n i e s parts)
+    mid-is = one.stop ns n di parts.left (stands_left ns text n i e s parts)
 
     end_is : right.byte + 1 ≡ i + length s.spelling
     end_is =
-        let end : right.byte ≡ (left.byte + 3) + length parts.v = two.stop ns n di parts.right (stands-right ns text n i e s parts left.byte mid-is) in
+        let end : right.byte ≡ (left.byte + 3) + length parts.v = two.stop ns n di parts.right (stands_right ns text n i e s parts left.byte mid-is) in
         omega (arith, end, mid-is, long ns text n i e s parts)
 
     op-is : op ≡ parts.op
@@ -53,10 +53,10 @@ module _ (text : List ℕ) (i : ℕ) (ws xs : List ℕ) (from w : ℕ) (op : Op)
         let p = parts in
         let a : Coded owns (set xs from w) (from + 1) p.left left.word =
         coded_kept owns ws (set xs from w) p.left (from + 1) left.word (λ k g l. others k (omega arith) ∙ kept k l)
-        (one.code ns n di owns le p.left (stands-left ns text n i e s p)) in
+        (one.code ns n di owns le p.left (stands_left ns text n i e s p)) in
         let b : Coded owns (set xs from w) left.word p.right right.word =
         coded_kept owns xs (set xs from w) p.right left.word right.word (λ k g l. others k (omega (arith, one.more)))
-        (two.code ns n di owns le p.right (stands-right ns text n i e s p left.byte mid-is)) in
+        (two.code ns n di owns le p.right (stands_right ns text n i e s p left.byte mid-is)) in
         subst (λ (x : Expr). Coded owns (set xs from w) from x right.word) (ap (λ o. node o p.left p.right) op-is ∙ sym p.is)
         (coded-node op owns (set xs from w) from left.word right.word p.left p.right (ap item_of (get_or-set_same xs from w 0 room) ∙ q) a b)
 

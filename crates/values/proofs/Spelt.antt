@@ -1,11 +1,11 @@
 -- How an expression that stands in a text is made up: a word, or two expressions in a bracket.
 use Rattle.std.proofs.Common.{◌≡◌, ℕ, zero, suc, ◌+◌, ◌-◌, ◌<◌, ◌≤◌, Bool, true, false, ◌≢◌, List, [], ◌∷◌, ◌++◌, length, get_or, take, drop, codes, sym, refl, ap, ◌∙◌, subst, append_assoc, add-zero, arith}
 use Rattle.std.specs.List.{between}
-use Rattle.std.proofs.lemmas.List.{length-append, length-drop, drop-drop, drop_at, take_at}
+use Rattle.std.proofs.lemmas.List.{length_append, length-drop, drop-drop, drop_at, take_at}
 use Rattle.std.proofs.lemmas.Bool.{false≢true, true≢false, both_ways, and_parts, and_from}
 use Rattle.std.proofs.lemmas.Bool.Decides.{nat_tests}
 use Rattle.lanes.specs.Syntax.{Expr, fixed, var, lane, group, lanes, plus, minus, times, over, rest_of, less, same}
-use Rattle.grammar.specs.Spelling.{Named, Spells-expr, IsNumber, IsName, digit, letter, word_byte, each_byte, infix_of}
+use Rattle.grammar.specs.Spelling.{Named, SpellsExpr, IsNumber, IsName, digit, letter, word_byte, each_byte, infix_of}
 use Rattle.grammar.specs.Stands.{Stands, Apart}
 use Rattle.grammar.specs.Names.{NamesIn}
 use Rattle.grammar.specs.Words.{WordEnd}
@@ -44,7 +44,7 @@ lanes_word : Word (codes "lanes")
 unfolding each_byte
 lanes_word = record { some = omega arith; bytes = refl }
 
-pub word-spelt : (ns : List (List ℕ)) (text u : List ℕ) → NamesIn ns text → (e : Expr) → Spells-expr (Named ns) e u → simple e ≡ true → Word u
+pub word-spelt : (ns : List (List ℕ)) (text u : List ℕ) → NamesIn ns text → (e : Expr) → SpellsExpr (Named ns) e u → simple e ≡ true → Word u
 word-spelt ns text u n =
     word-cases ns u (λ _. Word u) (λ a i. record { some = i.some; bytes = digits-word u i.bytes })
     (λ k m. let is = n.names k m.0 in word_same u (get_or ns k []) m.1 record { some = is.some; bytes = is.bytes })
@@ -58,12 +58,12 @@ pub record Halves (ns : List (List ℕ)) (e : Expr) (t : List ℕ) : Type 0 wher
   pub u : List ℕ
   pub v : List ℕ
   pub is : e ≡ node op left right
-  pub spells_left : Spells-expr (Named ns) left u
-  pub spells_right : Spells-expr (Named ns) right v
+  pub spells_left : SpellsExpr (Named ns) left u
+  pub spells_right : SpellsExpr (Named ns) right v
   pub whole : t ≡ infix_of u (byte_of op) v
 
-pub halves : (ns : List (List ℕ)) (e : Expr) (t : List ℕ) → Spells-expr (Named ns) e t → simple e ≡ false → Halves ns e t
-unfolding Spells-expr
+pub halves : (ns : List (List ℕ)) (e : Expr) (t : List ℕ) → SpellsExpr (Named ns) e t → simple e ≡ false → Halves ns e t
+unfolding SpellsExpr
 halves ns (fixed a) t s h = absurd (true≢false h)
 halves ns (var k) t s h = absurd (true≢false h)
 halves ns lane t s h = absurd (true≢false h)

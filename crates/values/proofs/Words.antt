@@ -6,7 +6,7 @@ use Rattle.std.proofs.lemmas.Bool.Decides.{nat_tests}
 use Rattle.std.proofs.lemmas.List.{length-take, get_or-take, get_or-drop}
 use Rattle.lanes.specs.Syntax.{Expr, fixed, var, lane, group, lanes, plus, minus, times, over, rest_of, less, same}
 use Rattle.lanes.specs.Step.{whole}
-use Rattle.grammar.specs.Spelling.{Named, Spells-expr, IsNumber, IsName, letter, digit, decimal, one_of, keywords, same_bytes}
+use Rattle.grammar.specs.Spelling.{Named, SpellsExpr, IsNumber, IsName, letter, digit, decimal, one_of, keywords, same_bytes}
 use Rattle.grammar.specs.Names.{NamesIn, Distinct, FirstAt}
 use Rattle.grammar.proofs.Scanned.{byte_at}
 use Rattle.values.specs.declared.leaves.Leaf.{Leaf}
@@ -15,8 +15,8 @@ use Rattle.values.specs.Worth.{simple, plain, LeafIs, LeafAt}
 
 module _ (ns : List (List ℕ)) (u : List ℕ) (P : Expr → Type 0) (at-fixed : (a : ℕ) → IsNumber a u → P (fixed a)) (at-var : (k : ℕ) → Named ns k u → P (var k)) where
   -- A number or a name, by cases.
-  pub plain-cases : (e : Expr) → Spells-expr (Named ns) e u → plain e ≡ true → P e
-  unfolding Spells-expr
+  pub plain-cases : (e : Expr) → SpellsExpr (Named ns) e u → plain e ≡ true → P e
+  unfolding SpellsExpr
   plain-cases (fixed a) s h = at-fixed a s
   plain-cases (var k) s h = at-var k s
   plain-cases lane s h = absurd (false≢true h)
@@ -31,8 +31,8 @@ module _ (ns : List (List ℕ)) (u : List ℕ) (P : Expr → Type 0) (at-fixed :
   plain-cases (same e f) s h = absurd (false≢true h)
 
   -- Any word.
-  pub word-cases : (u ≡ codes "lane" → P lane) → (u ≡ codes "group" → P group) → (u ≡ codes "lanes" → P lanes) → (e : Expr) → Spells-expr (Named ns) e u → simple e ≡ true → P e
-  unfolding Spells-expr
+  pub word-cases : (u ≡ codes "lane" → P lane) → (u ≡ codes "group" → P group) → (u ≡ codes "lanes" → P lanes) → (e : Expr) → SpellsExpr (Named ns) e u → simple e ≡ true → P e
+  unfolding SpellsExpr
   word-cases at-lane at-group at-lanes (fixed a) s h = at-fixed a s
   word-cases at-lane at-group at-lanes (var k) s h = at-var k s
   word-cases at-lane at-group at-lanes lane s h = at-lane s
@@ -109,6 +109,6 @@ lanes-leaf text u q ns n di =
 
 -- A word that is no word of the language.
 pub other-leaf : (text u : List ℕ) (r : Leaf) → (u ≡ codes "lane" → ⊥) → (u ≡ codes "group" → ⊥) → (u ≡ codes "lanes" → ⊥) → LeafAt plain text u r → LeafAt simple text u r
-unfolding Spells-expr
+unfolding SpellsExpr
 other-leaf text u r l g s p ns n di =
     word-cases ns u (LeafIs (length ns) r) (λ a i. p ns n di (fixed a) i refl) (λ k m. p ns n di (var k) m refl) (λ q. absurd (l q)) (λ q. absurd (g q)) (λ q. absurd (s q))

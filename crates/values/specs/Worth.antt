@@ -2,7 +2,7 @@
 use Rattle.std.specs.Prelude.{◌≡◌, ℕ, ◌%◌, ◌<◌, Bool, true, false, List, length}
 use Rattle.lanes.specs.Syntax.{Expr, fixed, var, lane, group, lanes, plus, minus, times, over, rest_of, less, same}
 use Rattle.lanes.specs.Step.{whole}
-use Rattle.grammar.specs.Spelling.{Named, Spells-expr}
+use Rattle.grammar.specs.Spelling.{Named, SpellsExpr}
 use Rattle.grammar.specs.Names.{NamesIn, Distinct}
 use Rattle.values.specs.declared.leaves.Leaf.{Leaf}
 use Rattle.values.specs.declared.leaves.Leaf.TheVariants.{Fixed, Own, Lane, Group, Lanes}
@@ -47,4 +47,4 @@ LeafIs owns Lanes e = e ≡ lanes
 
 -- The leaf is what the word u of the text spells, if that is an expression of the kind f.
 abbrev pub LeafAt : (Expr → Bool) → List ℕ → List ℕ → Leaf → Type 0
-LeafAt f text u r = (ns : List (List ℕ)) → NamesIn ns text → Distinct ns → (e : Expr) → Spells-expr (Named ns) e u → f e ≡ true → LeafIs (length ns) r e
+LeafAt f text u r = (ns : List (List ℕ)) → NamesIn ns text → Distinct ns → (e : Expr) → SpellsExpr (Named ns) e u → f e ≡ true → LeafIs (length ns) r e

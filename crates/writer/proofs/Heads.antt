@@ -4,7 +4,7 @@ use Rattle.std.specs.List.{flat_map}
 use Rattle.std.proofs.lemmas.List.{append_assoc, append-nil}
 use Rattle.std.proofs.lemmas.Bool.{and_parts, and_from, eqb-true, eq-eqb, cases_Bool, both_ways}
 use Rattle.lanes.specs.Syntax.{Program, Expr, Body, end, put, read_shared, write_shared, read_all, write_all, barrier, when, while}
-use Rattle.grammar.specs.Spelling.{digit, word_byte, each_byte, same_bytes, IsName, IsNumber, decimal, Spells-body, OwnLine, CellsLine, Spelled, Named}
+use Rattle.grammar.specs.Spelling.{digit, word_byte, each_byte, same_bytes, IsName, IsNumber, decimal, SpellsBody, OwnLine, CellsLine, Spelled, Named}
 use Rattle.grammar.specs.Taken.{Distinct}
 use Rattle.writer.specs.Once.{OneProgram}
 use Rattle.writer.proofs.Parses.{front, back, front-run, back-run, each-weaker, digit-word, Unlike, name-unlike}
@@ -75,8 +75,8 @@ module _ (N : ℕ → List ℕ → Type 0) (is_name : (k : ℕ) (u : List ℕ) �
       let r = front-run word_byte a (codes " = " ++ x) i.bytes refl in
       let w = name-unlike a i.free in record { no_own = rw r w.own; no_cells = rw r w.cells }
 
-  body_lead : (b : Body) (t : List ℕ) → Spells-body N b t → BodyLead t
-  unfolding Spells-body same_bytes
+  body_lead : (b : Body) (t : List ℕ) → SpellsBody N b t → BodyLead t
+  unfolding SpellsBody same_bytes
   body_lead end t s = rw s (record { no_own = refl; no_cells = refl })
   body_lead (put k e b) t (a, u, z, i, s, r, q) = rw q (name_lead k a (u ++ (10 ∷ z)) i)
   body_lead (read_shared k e b) t (a, u, z, i, s, r, q) = rw q (name_lead k a (codes "cell " ++ (u ++ (10 ∷ z))) i)

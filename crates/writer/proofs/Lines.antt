@@ -1,14 +1,14 @@
 -- A text that is taken, written anew, is taken; and every program in bounds has a text.
 use Rattle.std.proofs.Common.{◌≡◌, ℕ, zero, suc, ◌+◌, ◌-◌, ◌*◌, ◌^◌, ◌<◌, ◌≤◌, Bool, true, false, cond, not, ◌&&◌, ◌||◌, eqb, leb, ◌≢◌, ◌⊎◌, List, [], ◌∷◌, ◌++◌, length, get_or, codes, decimal as digits_of, sym, refl, ap, ◌∙◌, inl, inr, suc-le-suc, zero-le, arith}
 use Rattle.std.specs.List.{flat_map}
-use Rattle.std.proofs.lemmas.List.{append_assoc, append-nil, length-append}
+use Rattle.std.proofs.lemmas.List.{append_assoc, append-nil, length_append}
 use Rattle.std.proofs.lemmas.Fmt.{length-decimal-le}
 use Rattle.std.proofs.lemmas.Str.Parse.{digits_value_short}
 use Rattle.std.proofs.lemmas.Bool.{cases_Bool, eqb-true, and_parts}
 use Rattle.std.proofs.lemmas.Bool.Decides.{nat_tests}
 use Rattle.lanes.specs.Syntax.{Expr, fixed, var, lane, group, lanes, plus, minus, times, over, rest_of, less, same, Body, end, put, read_shared, write_shared, read_all, write_all, barrier, when, while, Program, ended}
 use Rattle.lanes.specs.Told.{ExprFits, BodyFits}
-use Rattle.grammar.specs.Spelling.{digit, word_byte, each_byte, decimal, infix_of, IsName, IsNumber, Spells-expr, Spells-body, OwnLine, CellsLine, Spelled, Named}
+use Rattle.grammar.specs.Spelling.{digit, word_byte, each_byte, decimal, infix_of, IsName, IsNumber, SpellsExpr, SpellsBody, OwnLine, CellsLine, Spelled, Named}
 use Rattle.grammar.specs.Taken.{Taken, lines_in, lines_within}
 use Rattle.writer.specs.Written.{written_expr, written_body, written, else_lines_spec, own_line, cells_line_spec, InBounds, NoLonger, EveryProgram, Anew, names_in_turn}
 use Rattle.writer.proofs.Parses.{each-weaker}
@@ -35,7 +35,7 @@ pub shorter-both : (u v x y : List ℕ) → Shorter u v → Shorter x y → Shor
 shorter-both u v x y p q = record {
   flat = each_append plain u x p.flat q.flat;
   flat_too = each_append plain v y p.flat_too q.flat_too;
-  no_longer = rw (length-append u x, length-append v y) (omega (arith, p.no_longer, q.no_longer));
+  no_longer = rw (length_append u x, length_append v y) (omega (arith, p.no_longer, q.no_longer));
 }
 
 shorter-infix : (t u v x y : List ℕ) (b : ℕ) → plain b ≡ true → Shorter u v → Shorter x y → t ≡ infix_of u b x → Shorter t (infix_of v b y)
@@ -55,8 +55,8 @@ module _ (ns : List (List ℕ)) (names : (k : ℕ) → k < length ns → IsName 
   shorter-name : (k : ℕ) (u : List ℕ) → Named ns k u → Shorter u (get_or ns k [])
   shorter-name k u (h, q) = rw q (shorter-same (get_or ns k []) (each-weaker word_byte plain word-plain (get_or ns k []) (names k h).bytes))
 
-  shorter-expr : (e : Expr) (u : List ℕ) → ExprFits (length ns) e → Spells-expr (Named ns) e u → Shorter u (written_expr ns e)
-  unfolding ExprFits Spells-expr written_expr each_byte
+  shorter-expr : (e : Expr) (u : List ℕ) → ExprFits (length ns) e → SpellsExpr (Named ns) e u → Shorter u (written_expr ns e)
+  unfolding ExprFits SpellsExpr written_expr each_byte
   shorter-expr (fixed a) u f s = shorter-number a u f s
   shorter-expr (var k) u f s = shorter-name k u s
   shorter-expr lane u f s = rw s (shorter-same (codes "lane") refl)
@@ -110,8 +110,8 @@ module _ (ns : List (List ℕ)) (names : (k : ℕ) → k < length ns → IsName 
   unfolding each_byte
   shrink-end t t' s = line (codes "end") (codes "end") t t' (shorter-same (codes "end") refl) s
 
-  shrink-body : (b : Body) (t : List ℕ) → BodyFits (length ns) b → Spells-body (Named ns) b t → Shrinks t (written_body ns b)
-  unfolding BodyFits Spells-body written_body each_byte
+  shrink-body : (b : Body) (t : List ℕ) → BodyFits (length ns) b → SpellsBody (Named ns) b t → Shrinks t (written_body ns b)
+  unfolding BodyFits SpellsBody written_body each_byte
   shrink-body end t f s = rw s shrinks-none
   shrink-body (put k e b) t f (a, u, z, i, s, r, q) = rw q (two a _ (codes " = ") u _ z _ refl (shorter-name k a i) (shorter-expr e u f.1 s) (shrink-body b z f.2 r))
   shrink-body (read_shared k e b) t f (a, u, z, i, s, r, q) = rw q (two a _ (codes " = cell ") u _ z _ refl (shorter-name k a i) (shorter-expr e u f.1 s) (shrink-body b z f.2 r))

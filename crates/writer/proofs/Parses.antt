@@ -4,7 +4,7 @@ use Rattle.std.proofs.lemmas.List.{append_assoc}
 use Rattle.std.proofs.lemmas.Bool.{and_parts, cases_Bool, both_ways, cond-true, cond-false, or_parts}
 use Rattle.std.proofs.lemmas.Bool.Decides.{nat_tests}
 use Rattle.lanes.specs.Syntax.{Expr, fixed, var, lane, group, lanes, plus, minus, times, over, rest_of, less, same, Body, end, put, read_shared, write_shared, read_all, write_all, barrier, when, while}
-use Rattle.grammar.specs.Spelling.{letter, digit, word_byte, each_byte, same_bytes, one_of, keywords, IsName, decimal, IsNumber, infix_of, Spells-expr, Spells-body}
+use Rattle.grammar.specs.Spelling.{letter, digit, word_byte, each_byte, same_bytes, one_of, keywords, IsName, decimal, IsNumber, infix_of, SpellsExpr, SpellsBody}
 use Rattle.grammar.specs.Stands.{Apart}
 
 -- the longest front of bytes that have f, and what is behind it
@@ -16,9 +16,9 @@ abbrev pub back : (ℕ → Bool) → List ℕ → List ℕ
 back f [] = []
 back f (b ∷ bs) = cond (f b) (back f bs) (b ∷ bs)
 
-front-none : (f : ℕ → Bool) (z : List ℕ) → f (get_or z 0 0) ≡ false → front f z ≡ []
-front-none f [] h = refl
-front-none f (b ∷ bs) h = rw h
+front_none : (f : ℕ → Bool) (z : List ℕ) → f (get_or z 0 0) ≡ false → front f z ≡ []
+front_none f [] h = refl
+front_none f (b ∷ bs) h = rw h
 
 back_none : (f : ℕ → Bool) (z : List ℕ) → f (get_or z 0 0) ≡ false → back f z ≡ z
 back_none f [] h = refl
@@ -26,7 +26,7 @@ back_none f (b ∷ bs) h = rw h
 
 pub front-run : (f : ℕ → Bool) (u z : List ℕ) → each_byte f u ≡ true → f (get_or z 0 0) ≡ false → front f (u ++ z) ≡ u
 unfolding each_byte
-front-run f [] z e h = front-none f z h
+front-run f [] z e h = front_none f z h
 front-run f (b ∷ u) z e h = let p = and_parts (f b) (each_byte f u) e in rw p.0 (ap (λ (x : List ℕ). b ∷ x) (front-run f u z p.1 h))
 
 pub back-run : (f : ℕ → Bool) (u z : List ℕ) → each_byte f u ≡ true → f (get_or z 0 0) ≡ false → back f (u ++ z) ≡ z
@@ -119,8 +119,8 @@ name-unlike u e =
     record { own = a.0; cells = b.0; cell = c.0; field = d.0; bar = f.0; ifs = g.0; elses = h.0; ends = i.0; whiles = j.0; lane_is = k.0; group_is = l.0; lanes_is = m.0 }
 
 module _ (find : List ℕ → ℕ) where
-  unfoldable pub leaf-of : List ℕ → Expr
-  leaf-of w =
+  unfoldable pub leaf_of_spec : List ℕ → Expr
+  leaf_of_spec w =
       cond (digit (get_or w 0 0)) (fixed (decimal 0 w))
       (cond (same_bytes (codes "lane") w) lane (cond (same_bytes (codes "group") w) group (cond (same_bytes (codes "lanes") w) lanes (var (find w)))))
 
@@ -130,10 +130,10 @@ module _ (find : List ℕ → ℕ) where
   unfoldable pub parsed : ℕ → List ℕ → Expr × List ℕ
   parsed zero t = (lane, t)
   parsed (suc n) t =
-      cond (eqb (get_or t 0 0) 40) (joined_to (parsed n (drop 1 t)) (parsed n (drop 3 (parsed n (drop 1 t)).1))) (leaf-of (front word_byte t), back word_byte t)
+      cond (eqb (get_or t 0 0) 40) (joined_to (parsed n (drop 1 t)) (parsed n (drop 3 (parsed n (drop 1 t)).1))) (leaf_of_spec (front word_byte t), back word_byte t)
 
   -- a word is read as what it is
-  word_read : (e : Expr) (u z : List ℕ) (n : ℕ) → each_byte word_byte u ≡ true → 1 ≤ length u → leaf-of u ≡ e → Apart z → 1 ≤ n → parsed n (u ++ z) ≡ (e, z)
+  word_read : (e : Expr) (u z : List ℕ) (n : ℕ) → each_byte word_byte u ≡ true → 1 ≤ length u → leaf_of_spec u ≡ e → Apart z → 1 ≤ n → parsed n (u ++ z) ≡ (e, z)
   unfolding parsed
   word_read e u z zero w s l a h = absurd (not-suc-le-zero h)
   word_read e u z (suc n) w s l a h = rw (no-bracket-first u z w s, front-run word_byte u z w a, back-run word_byte u z w a, l)
@@ -145,24 +145,24 @@ module _ (find : List ℕ → ℕ) where
   infix-read e f u v z b n p q = rw (infix-behind u v z b, p, q)
 
   module _ (N : ℕ → List ℕ → Type 0) (is_name : (k : ℕ) (u : List ℕ) → N k u → IsName u) (found : (k : ℕ) (u : List ℕ) → N k u → find u ≡ k) where
-    leaf-name : (k : ℕ) (u : List ℕ) → N k u → leaf-of u ≡ var k
-    unfolding leaf-of
+    leaf-name : (k : ℕ) (u : List ℕ) → N k u → leaf_of_spec u ≡ var k
+    unfolding leaf_of_spec
     leaf-name k u h =
         let i = is_name k u h in
         let n = name-unlike u i.free in
         rw (digit-letter (get_or u 0 0) i.begins, n.lane_is, n.group_is, n.lanes_is, found k u h)
 
-    leaf-number : (a : ℕ) (u : List ℕ) → IsNumber a u → leaf-of u ≡ fixed a
-    unfolding leaf-of
+    leaf-number : (a : ℕ) (u : List ℕ) → IsNumber a u → leaf_of_spec u ≡ fixed a
+    unfolding leaf_of_spec
     leaf-number a u i = rw (first-digit u i.some i.bytes, i.value)
 
-    both_read : (e f x : Expr) (u v w z : List ℕ) (b n : ℕ) → w ≡ infix_of u b v → x ≡ made b e f → Spells-expr N e u → Spells-expr N f v → Apart z → suc (height e + height f) ≤ n →
+    both_read : (e f x : Expr) (u v w z : List ℕ) (b n : ℕ) → w ≡ infix_of u b v → x ≡ made b e f → SpellsExpr N e u → SpellsExpr N f v → Apart z → suc (height e + height f) ≤ n →
         ((n : ℕ) (z : List ℕ) → Apart z → height e ≤ n → parsed n (u ++ z) ≡ (e, z)) → ((n : ℕ) (z : List ℕ) → Apart z → height f ≤ n → parsed n (v ++ z) ≡ (f, z)) → parsed n (w ++ z) ≡ (x, z)
     both_read e f x u v w z b zero q m s t a h p r = absurd (not-suc-le-zero h)
     both_read e f x u v w z b (suc n) q m s t a h p r = rw (q, m) (infix-read e f u v z b n (p n _ refl (omega arith)) (r n _ refl (omega arith)))
 
-    pub read_back : (e : Expr) (u z : List ℕ) (n : ℕ) → Spells-expr N e u → Apart z → height e ≤ n → parsed n (u ++ z) ≡ (e, z)
-    unfolding Spells-expr height each_byte leaf-of same_bytes
+    pub read_back : (e : Expr) (u z : List ℕ) (n : ℕ) → SpellsExpr N e u → Apart z → height e ≤ n → parsed n (u ++ z) ≡ (e, z)
+    unfolding SpellsExpr height each_byte leaf_of_spec same_bytes
     read_back (fixed a) u z n s a' h = word_read (fixed a) u z n (each-weaker digit word_byte digit-word u s.bytes) s.some (leaf-number a u s) a' h
     read_back (var k) u z n s a h = word_read (var k) u z n (is_name k u s).bytes (is_name k u s).some (leaf-name k u s) a h
     read_back lane u z n s a h = rw s (word_read lane (codes "lane") z n refl (lit≤ tt) refl a h)

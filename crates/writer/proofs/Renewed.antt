@@ -1,12 +1,12 @@
 -- The copy of a text is what its program is written as.
 use Rattle.std.proofs.Common.{◌≡◌, ℕ, zero, suc, ◌+◌, ◌-◌, ◌*◌, ◌<◌, ◌≤◌, Bool, true, false, cond, not, ◌&&◌, ◌||◌, eqb, leb, ◌≢◌, ◌⊎◌, List, [], ◌∷◌, ◌++◌, length, get_or, drop, codes, decimal as digits_of, sym, refl, ap, ◌∙◌, inl, inr, suc-le-suc, zero-le, not-suc-le-zero, arith}
 use Rattle.std.specs.List.{flat_map}
-use Rattle.std.proofs.lemmas.List.{append_assoc, append-nil, length-append, get_or-append-add, get_or_at}
+use Rattle.std.proofs.lemmas.List.{append_assoc, append-nil, length_append, get_or-append-add, get_or_at}
 use Rattle.std.proofs.lemmas.Bool.{and_parts, and_left, cases_Bool, both_ways, eqb-true, eqb-false, le-leb}
 use Rattle.std.proofs.lemmas.Bool.Decides.{nat_tests}
 use Rattle.lanes.specs.Syntax.{Expr, Body, end, put, read_shared, write_shared, read_all, write_all, barrier, when, while, Program, ended}
 use Rattle.lanes.specs.Told.{ExprFits, BodyFits}
-use Rattle.grammar.specs.Spelling.{digit, word_byte, each_byte, same_bytes, decimal, IsName, IsNumber, Spells-expr, Spells-body, OwnLine, CellsLine, Spelled, Named}
+use Rattle.grammar.specs.Spelling.{digit, word_byte, each_byte, same_bytes, decimal, IsName, IsNumber, SpellsExpr, SpellsBody, OwnLine, CellsLine, Spelled, Named}
 use Rattle.writer.specs.Written.{written_expr, written_body, written, else_lines_spec, own_line, cells_line_spec}
 use Rattle.writer.specs.Copy.{begins, zeros, empty_else, left_out, copied, copy}
 use Rattle.writer.proofs.Parses.{Unlike, name-unlike}
@@ -27,39 +27,39 @@ module _ (ns : List (List ℕ)) (names : (k : ℕ) → k < length ns → IsName 
   named-name k u (h, q) = rw q (names k h)
 
   -- an expression and the end of its line
-  expr_line : (e : Expr) (u y : List ℕ) → ExprFits (length ns) e → Spells-expr (Named ns) e u → copied 0 false (u ++ (10 ∷ y)) ≡ written_expr ns e ++ (10 ∷ copy y)
+  expr_line : (e : Expr) (u y : List ℕ) → ExprFits (length ns) e → SpellsExpr (Named ns) e u → copied 0 false (u ++ (10 ∷ y)) ≡ written_expr ns e ++ (10 ∷ copy y)
   expr_line e u y f s = copied-expr ns names e u (10 ∷ y) f s refl ∙ ap (λ (x : List ℕ). written_expr ns e ++ x) (copied-line y)
 
-  two-line : (e g : Expr) (u v y : List ℕ) → ExprFits (length ns) e → ExprFits (length ns) g → Spells-expr (Named ns) e u → Spells-expr (Named ns) g v →
+  two_line : (e g : Expr) (u v y : List ℕ) → ExprFits (length ns) e → ExprFits (length ns) g → SpellsExpr (Named ns) e u → SpellsExpr (Named ns) g v →
       copied 0 false (u ++ (codes " = " ++ (v ++ (10 ∷ y)))) ≡ written_expr ns e ++ (codes " = " ++ (written_expr ns g ++ (10 ∷ copy y)))
   unfolding copied
-  two-line e g u v y f h s r =
+  two_line e g u v y f h s r =
       copied-expr ns names e u (codes " = " ++ (v ++ (10 ∷ y))) f s refl ∙ ap (λ (x : List ℕ). written_expr ns e ++ (codes " = " ++ x)) (expr_line g v y h r)
 
-  name-line : (k : ℕ) (a x : List ℕ) → Named ns k a → copy (a ++ (codes " = " ++ x)) ≡ get_or ns k [] ++ (codes " = " ++ copied 0 false x)
+  name_line : (k : ℕ) (a x : List ℕ) → Named ns k a → copy (a ++ (codes " = " ++ x)) ≡ get_or ns k [] ++ (codes " = " ++ copied 0 false x)
   unfolding copy copied
-  name-line k a x h = rw (name-stays a x (named-name k a h)) (copied-own ns names k a (codes " = " ++ x) h refl)
+  name_line k a x h = rw (name-stays a x (named-name k a h)) (copied-own ns names k a (codes " = " ++ x) h refl)
 
   -- lines that begin with a word of the language
-  cell-line : (x : List ℕ) → copy (codes "cell " ++ x) ≡ codes "cell " ++ copied 0 false x
+  cell_line : (x : List ℕ) → copy (codes "cell " ++ x) ≡ codes "cell " ++ copied 0 false x
   unfolding copy copied left_out begins
-  cell-line x = refl
+  cell_line x = refl
 
-  field-line : (x : List ℕ) → copy (codes "field " ++ x) ≡ codes "field " ++ copied 0 false x
+  field_line : (x : List ℕ) → copy (codes "field " ++ x) ≡ codes "field " ++ copied 0 false x
   unfolding copy copied left_out begins
-  field-line x = refl
+  field_line x = refl
 
-  barrier-line : (x : List ℕ) → copy (codes "barrier" ++ (10 ∷ x)) ≡ codes "barrier" ++ (10 ∷ copy x)
+  barrier_line : (x : List ℕ) → copy (codes "barrier" ++ (10 ∷ x)) ≡ codes "barrier" ++ (10 ∷ copy x)
   unfolding copy copied left_out begins
-  barrier-line x = refl
+  barrier_line x = refl
 
-  if-line : (x : List ℕ) → copy (codes "if " ++ x) ≡ codes "if " ++ copied 0 false x
+  if_line : (x : List ℕ) → copy (codes "if " ++ x) ≡ codes "if " ++ copied 0 false x
   unfolding copy copied left_out begins
-  if-line x = refl
+  if_line x = refl
 
-  while-line : (x : List ℕ) → copy (codes "while " ++ x) ≡ codes "while " ++ copied 0 false x
+  while_line : (x : List ℕ) → copy (codes "while " ++ x) ≡ codes "while " ++ copied 0 false x
   unfolding copy copied left_out begins
-  while-line x = refl
+  while_line x = refl
 
   end_line : (x : List ℕ) → copy (codes "end" ++ (10 ∷ x)) ≡ codes "end" ++ (10 ∷ copy x)
   unfolding copy copied left_out begins
@@ -69,17 +69,17 @@ module _ (ns : List (List ℕ)) (names : (k : ℕ) → k < length ns → IsName 
   unfolding copy copied left_out begins
   empty-line x = refl
 
-  else-line : (x : List ℕ) → begins (codes "end" ++ (10 ∷ [])) x ≡ false → copy (codes "else" ++ (10 ∷ x)) ≡ codes "else" ++ (10 ∷ copy x)
+  else_line : (x : List ℕ) → begins (codes "end" ++ (10 ∷ [])) x ≡ false → copy (codes "else" ++ (10 ∷ x)) ≡ codes "else" ++ (10 ∷ copy x)
   unfolding copy copied left_out begins
-  else-line x e = rw e
+  else_line x e = rw e
 
   -- the lines of a body that isn't empty begin with no end
   name-no-end : (k : ℕ) (a x : List ℕ) → Named ns k a → begins (codes "end" ++ (10 ∷ [])) (a ++ (codes " = " ++ x)) ≡ false
   unfolding each_byte
   name-no-end k a x h = let i = named-name k a h in begins-word (codes "end") [] a (codes " = " ++ x) 10 refl refl i.bytes refl (name-unlike a i.free).ends
 
-  no_end : (b : Body) (t x : List ℕ) → ended b ≡ false → Spells-body (Named ns) b t → begins (codes "end" ++ (10 ∷ [])) (t ++ x) ≡ false
-  unfolding Spells-body ended begins
+  no_end : (b : Body) (t x : List ℕ) → ended b ≡ false → SpellsBody (Named ns) b t → begins (codes "end" ++ (10 ∷ [])) (t ++ x) ≡ false
+  unfolding SpellsBody ended begins
   no_end end t x h s = absurd (both_ways true h refl)
   no_end (put k e b) t x h (a, u, z, i, s, r, q) = rw (q, append_assoc a (codes " = " ++ (u ++ (10 ∷ z))) x) (name-no-end k a ((u ++ (10 ∷ z)) ++ x) i)
   no_end (read_shared k e b) t x h (a, u, z, i, s, r, q) = rw (q, append_assoc a (codes " = cell " ++ (u ++ (10 ∷ z))) x) (name-no-end k a ((codes "cell " ++ (u ++ (10 ∷ z))) ++ x) i)
@@ -99,15 +99,15 @@ module _ (ns : List (List ℕ)) (names : (k : ℕ) → k < length ns → IsName 
   field-word x = refl
 
   -- one expression, and what is behind its line
-  behind : (e : Expr) (u y b : List ℕ) → ExprFits (length ns) e → Spells-expr (Named ns) e u → copy y ≡ b → copied 0 false (u ++ (10 ∷ y)) ≡ written_expr ns e ++ (10 ∷ b)
+  behind : (e : Expr) (u y b : List ℕ) → ExprFits (length ns) e → SpellsExpr (Named ns) e u → copy y ≡ b → copied 0 false (u ++ (10 ∷ y)) ≡ written_expr ns e ++ (10 ∷ b)
   behind e u y b f s r = expr_line e u y f s ∙ ap (λ (x : List ℕ). written_expr ns e ++ (10 ∷ x)) r
 
-  both_behind : (e g : Expr) (u v y b : List ℕ) → ExprFits (length ns) e → ExprFits (length ns) g → Spells-expr (Named ns) e u → Spells-expr (Named ns) g v → copy y ≡ b →
+  both_behind : (e g : Expr) (u v y b : List ℕ) → ExprFits (length ns) e → ExprFits (length ns) g → SpellsExpr (Named ns) e u → SpellsExpr (Named ns) g v → copy y ≡ b →
       copied 0 false (u ++ (codes " = " ++ (v ++ (10 ∷ y)))) ≡ written_expr ns e ++ (codes " = " ++ (written_expr ns g ++ (10 ∷ b)))
-  both_behind e g u v y b f h s r q = two-line e g u v y f h s r ∙ ap (λ (x : List ℕ). written_expr ns e ++ (codes " = " ++ (written_expr ns g ++ (10 ∷ x)))) q
+  both_behind e g u v y b f h s r q = two_line e g u v y f h s r ∙ ap (λ (x : List ℕ). written_expr ns e ++ (codes " = " ++ (written_expr ns g ++ (10 ∷ x)))) q
 
-  nothing : (d : Body) (v : List ℕ) → ended d ≡ true → Spells-body (Named ns) d v → v ≡ []
-  unfolding ended Spells-body
+  nothing : (d : Body) (v : List ℕ) → ended d ≡ true → SpellsBody (Named ns) d v → v ≡ []
+  unfolding ended SpellsBody
   nothing end v e s = s
   nothing (put k x b) v e s = absurd (both_ways false refl e)
   nothing (read_shared k x b) v e s = absurd (both_ways false refl e)
@@ -119,49 +119,49 @@ module _ (ns : List (List ℕ)) (names : (k : ℕ) → k < length ns → IsName 
   nothing (while x c b) v e s = absurd (both_ways false refl e)
 
   -- an else, or none, before the end of an if
-  else-copied : (d : Body) (y x : List ℕ) → (((d ≡ end) × (y ≡ [])) ⊎ ((v : List ℕ) × Spells-body (Named ns) d v × (y ≡ codes "else" ++ (10 ∷ v)))) →
-      ((v x : List ℕ) → Spells-body (Named ns) d v → copy (v ++ x) ≡ written_body ns d ++ copy x) →
+  else-copied : (d : Body) (y x : List ℕ) → (((d ≡ end) × (y ≡ [])) ⊎ ((v : List ℕ) × SpellsBody (Named ns) d v × (y ≡ codes "else" ++ (10 ∷ v)))) →
+      ((v x : List ℕ) → SpellsBody (Named ns) d v → copy (v ++ x) ≡ written_body ns d ++ copy x) →
       copy (y ++ (codes "end" ++ (10 ∷ x))) ≡ else_lines_spec d (written_body ns d) ++ (codes "end" ++ (10 ∷ copy x))
-  unfolding ended Spells-body
+  unfolding ended SpellsBody
   else-copied d y x (inl p) f = rw (p.0, p.1) (end_line x)
   else-copied d y x (inr (v, s, q)) f =
       elim (cases_Bool (ended d)) [
         | inl e ↦ rw (q, e) (rw (nothing d v e s) (empty-line x))
-        | inr e ↦ rw (q, e) (else-line (v ++ (codes "end" ++ (10 ∷ x))) (no_end d v (codes "end" ++ (10 ∷ x)) e s)
+        | inr e ↦ rw (q, e) (else_line (v ++ (codes "end" ++ (10 ∷ x))) (no_end d v (codes "end" ++ (10 ∷ x)) e s)
             ∙ ap (λ (z : List ℕ). codes "else" ++ (10 ∷ z)) (f v (codes "end" ++ (10 ∷ x)) s ∙ ap (λ (z : List ℕ). written_body ns d ++ z) (end_line x)))
       ]
 
-  copy_body : (b : Body) (t w : List ℕ) → BodyFits (length ns) b → Spells-body (Named ns) b t → copy (t ++ w) ≡ written_body ns b ++ copy w
-  unfolding BodyFits Spells-body written_body
+  copy_body : (b : Body) (t w : List ℕ) → BodyFits (length ns) b → SpellsBody (Named ns) b t → copy (t ++ w) ≡ written_body ns b ++ copy w
+  unfolding BodyFits SpellsBody written_body
   copy_body end t w f s = rw s
   copy_body (put k e b) t w f (a, u, z, i, s, r, q) =
-      rw q (simp append_assoc (name-line k a (u ++ (10 ∷ (z ++ w))) i ∙ ap (λ (x : List ℕ). get_or ns k [] ++ (codes " = " ++ x)) (behind e u (z ++ w) _ f.1 s (copy_body b z w f.2 r))))
+      rw q (simp append_assoc (name_line k a (u ++ (10 ∷ (z ++ w))) i ∙ ap (λ (x : List ℕ). get_or ns k [] ++ (codes " = " ++ x)) (behind e u (z ++ w) _ f.1 s (copy_body b z w f.2 r))))
   copy_body (read_shared k e b) t w f (a, u, z, i, s, r, q) =
-      rw q (simp append_assoc (name-line k a (codes "cell " ++ (u ++ (10 ∷ (z ++ w)))) i
+      rw q (simp append_assoc (name_line k a (codes "cell " ++ (u ++ (10 ∷ (z ++ w)))) i
       ∙ ap (λ (x : List ℕ). get_or ns k [] ++ (codes " = " ++ x)) (cell-word (u ++ (10 ∷ (z ++ w))) ∙ ap (λ (x : List ℕ). codes "cell " ++ x) (behind e u (z ++ w) _ f.1 s (copy_body b z w f.2 r)))))
   copy_body (read_all k e b) t w f (a, u, z, i, s, r, q) =
-      rw q (simp append_assoc (name-line k a (codes "field " ++ (u ++ (10 ∷ (z ++ w)))) i
+      rw q (simp append_assoc (name_line k a (codes "field " ++ (u ++ (10 ∷ (z ++ w)))) i
       ∙ ap (λ (x : List ℕ). get_or ns k [] ++ (codes " = " ++ x)) (field-word (u ++ (10 ∷ (z ++ w))) ∙ ap (λ (x : List ℕ). codes "field " ++ x) (behind e u (z ++ w) _ f.1 s (copy_body b z w f.2 r)))))
   copy_body (write_shared e g b) t w f (u, v, z, s, r, i, q) =
-      rw q (simp append_assoc (cell-line (u ++ (codes " = " ++ (v ++ (10 ∷ (z ++ w))))) ∙ ap (λ (x : List ℕ). codes "cell " ++ x) (both_behind e g u v (z ++ w) _ f.0 f.1 s r (copy_body b z w f.2 i))))
+      rw q (simp append_assoc (cell_line (u ++ (codes " = " ++ (v ++ (10 ∷ (z ++ w))))) ∙ ap (λ (x : List ℕ). codes "cell " ++ x) (both_behind e g u v (z ++ w) _ f.0 f.1 s r (copy_body b z w f.2 i))))
   copy_body (write_all e g b) t w f (u, v, z, s, r, i, q) =
-      rw q (simp append_assoc (field-line (u ++ (codes " = " ++ (v ++ (10 ∷ (z ++ w))))) ∙ ap (λ (x : List ℕ). codes "field " ++ x) (both_behind e g u v (z ++ w) _ f.0 f.1 s r (copy_body b z w f.2 i))))
-  copy_body (barrier b) t w f (z, r, q) = rw q (barrier-line (z ++ w) ∙ ap (λ (x : List ℕ). codes "barrier" ++ (10 ∷ x)) (copy_body b z w f r))
+      rw q (simp append_assoc (field_line (u ++ (codes " = " ++ (v ++ (10 ∷ (z ++ w))))) ∙ ap (λ (x : List ℕ). codes "field " ++ x) (both_behind e g u v (z ++ w) _ f.0 f.1 s r (copy_body b z w f.2 i))))
+  copy_body (barrier b) t w f (z, r, q) = rw q (barrier_line (z ++ w) ∙ ap (λ (x : List ℕ). codes "barrier" ++ (10 ∷ x)) (copy_body b z w f r))
   copy_body (when e c d b) t w f (u, x, y, z, s, cs, o, r, q) =
-      rw q (simp append_assoc (if-line (u ++ (10 ∷ (x ++ (y ++ (codes "end" ++ (10 ∷ (z ++ w)))))))
+      rw q (simp append_assoc (if_line (u ++ (10 ∷ (x ++ (y ++ (codes "end" ++ (10 ∷ (z ++ w)))))))
       ∙ ap (λ (m : List ℕ). codes "if " ++ m) (behind e u (x ++ (y ++ (codes "end" ++ (10 ∷ (z ++ w))))) _ f.0 s
       (copy_body c x (y ++ (codes "end" ++ (10 ∷ (z ++ w)))) f.1 cs
       ∙ ap (λ (m : List ℕ). written_body ns c ++ m) (else-copied d y (z ++ w) o (λ v x i. copy_body d v x f.2 i)
       ∙ ap (λ (m : List ℕ). else_lines_spec d (written_body ns d) ++ (codes "end" ++ (10 ∷ m))) (copy_body b z w f.3 r))))))
   copy_body (while e c b) t w f (u, x, z, s, cs, ne, r, q) =
-      rw q (simp append_assoc (while-line (u ++ (10 ∷ (x ++ (codes "end" ++ (10 ∷ (z ++ w))))))
+      rw q (simp append_assoc (while_line (u ++ (10 ∷ (x ++ (codes "end" ++ (10 ∷ (z ++ w))))))
       ∙ ap (λ (m : List ℕ). codes "while " ++ m) (behind e u (x ++ (codes "end" ++ (10 ∷ (z ++ w)))) _ f.0 s
       (copy_body c x (codes "end" ++ (10 ∷ (z ++ w))) f.1 cs
       ∙ ap (λ (m : List ℕ). written_body ns c ++ m) (end_line (z ++ w) ∙ ap (λ (m : List ℕ). codes "end" ++ (10 ∷ m)) (copy_body b z w f.3 r))))))
 
   -- nothing is left out where a body begins
-  body-stays : (b : Body) (t : List ℕ) → Spells-body (Named ns) b t → left_out t ≡ 0
-  unfolding Spells-body left_out begins
+  body-stays : (b : Body) (t : List ℕ) → SpellsBody (Named ns) b t → left_out t ≡ 0
+  unfolding SpellsBody left_out begins
   body-stays end t s = rw s
   body-stays (put k e b) t (a, u, z, i, s, r, q) = rw q (name-stays a (u ++ (10 ∷ z)) (named-name k a i))
   body-stays (read_shared k e b) t (a, u, z, i, s, r, q) = rw q (name-stays a (codes "cell " ++ (u ++ (10 ∷ z))) (named-name k a i))
@@ -276,7 +276,7 @@ cells-copied s t x h (inr (u, i, q)) o =
     whole-line u x = ap (λ (k : ℕ). copied k false (codes "cells " ++ (u ++ (10 ∷ x)))) (long u) ∙ (ap (λ (y : List ℕ). copied (length (codes "cells " ++ (u ++ (10 ∷ [])))) false (codes "cells " ++ y)) (sym (append_assoc u (10 ∷ []) x)) ∙ skipped (codes "cells " ++ (u ++ (10 ∷ []))) x false)
       where
         long : (u : List ℕ) → 7 + length u ≡ length (codes "cells " ++ (u ++ (10 ∷ [])))
-        long u = simp length-append (omega arith)
+        long u = simp length_append (omega arith)
 
 pub renewed : (ns : List (List ℕ)) (p : Program) (text : List ℕ) → p.shared ≤ 16384 → BodyFits p.owns p.body → Spelled (Named ns) ns p text → copy text ≡ written ns p
 unfolding written copy written_body copied

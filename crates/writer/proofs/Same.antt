@@ -6,7 +6,7 @@ use Rattle.std.proofs.lemmas.Bool.{and_parts, and_left, cases_Bool, both_ways, e
 use Rattle.std.proofs.lemmas.Bool.Decides.{nat_tests}
 use Rattle.lanes.specs.Syntax.{Expr, fixed, var, lane, group, lanes, plus, minus, times, over, rest_of, less, same}
 use Rattle.lanes.specs.Told.{ExprFits}
-use Rattle.grammar.specs.Spelling.{letter, digit, word_byte, each_byte, same_bytes, decimal, infix_of, IsName, IsNumber, Spells-expr, Named}
+use Rattle.grammar.specs.Spelling.{letter, digit, word_byte, each_byte, same_bytes, decimal, infix_of, IsName, IsNumber, SpellsExpr, Named}
 use Rattle.grammar.specs.Stands.{Apart}
 use Rattle.writer.specs.Written.{written_expr}
 use Rattle.writer.specs.Copy.{begins, left_out, zero_led, copied, copy}
@@ -120,8 +120,8 @@ module _ (ns : List (List ℕ)) (names : (k : ℕ) → k < length ns → IsName 
   pub copied-own : (k : ℕ) (u z : List ℕ) → Named ns k u → Apart z → copied 0 false (u ++ z) ≡ get_or ns k [] ++ copied 0 false z
   copied-own k u z (h, q) a = rw q (copied-name (get_or ns k []) z (names k h) a)
 
-  pub copied-expr : (e : Expr) (u z : List ℕ) → ExprFits (length ns) e → Spells-expr (Named ns) e u → Apart z → copied 0 false (u ++ z) ≡ written_expr ns e ++ copied 0 false z
-  unfolding ExprFits Spells-expr written_expr each_byte
+  pub copied-expr : (e : Expr) (u z : List ℕ) → ExprFits (length ns) e → SpellsExpr (Named ns) e u → Apart z → copied 0 false (u ++ z) ≡ written_expr ns e ++ copied 0 false z
+  unfolding ExprFits SpellsExpr written_expr each_byte
   copied-expr (fixed a) u z f s h = copied-number u z s.some s.bytes (omega (arith, s.value)) h ∙ ap (λ (x : ℕ). digits_of x ++ copied 0 false z) s.value
   copied-expr (var k) u z f s h = copied-own k u z s h
   copied-expr lane u z f s h = rw s (first-copied 108 (codes "ane") z refl refl refl h)

@@ -5,7 +5,7 @@ use Rattle.std.proofs.lemmas.Str.Parse.{IsNumeralModel, numerals_by_fold}
 use Rattle.std.proofs.lemmas.Bool.{cases_Bool, eqb-true, eqb-false}
 use Rattle.lanes.specs.Syntax.{Expr, fixed, var, lane, group, lanes, plus, minus, times, over, rest_of, less, same, Body, end, put, read_shared, write_shared, read_all, write_all, barrier, when, while, Program, ended}
 use Rattle.lanes.specs.Told.{ExprFits, BodyFits}
-use Rattle.grammar.specs.Spelling.{digit, each_byte, decimal, IsName, IsNumber, Spells-expr, Spells-body, OwnLine, CellsLine, Spelled, Named}
+use Rattle.grammar.specs.Spelling.{digit, each_byte, decimal, IsName, IsNumber, SpellsExpr, SpellsBody, OwnLine, CellsLine, Spelled, Named}
 use Rattle.writer.specs.Written.{written_expr, written_body, written, else_lines_spec, own_line, cells_line_spec}
 
 pub own : IsNumeralModel (λ ds. each_byte digit ds ≡ true) (decimal 0)
@@ -15,8 +15,8 @@ own = numerals_by_fold _ (search rules) decimal (search rules)
 pub number-spelt : (a : ℕ) → a < 18446744073709551616 → IsNumber a (digits_of a)
 number-spelt a h = record { some = decimal_nonempty a h; bytes = digits_decimal own a h; value = digits_value-decimal own a h }
 
-pub expr-spelt : (ns : List (List ℕ)) (e : Expr) → ExprFits (length ns) e → Spells-expr (Named ns) e (written_expr ns e)
-unfolding ExprFits Spells-expr written_expr
+pub expr-spelt : (ns : List (List ℕ)) (e : Expr) → ExprFits (length ns) e → SpellsExpr (Named ns) e (written_expr ns e)
+unfolding ExprFits SpellsExpr written_expr
 expr-spelt ns (fixed a) f = number-spelt a (omega arith)
 expr-spelt ns (var k) f = (f, refl)
 expr-spelt ns lane f = refl
@@ -34,12 +34,12 @@ ended_is : (d : Body) → ended d ≡ true → d ≡ end
 unfolding ended
 ended_is d e = grind arith
 
-else-spelt : (ns : List (List ℕ)) (d : Body) → Spells-body (Named ns) d (written_body ns d) →
-    ((d ≡ end) × (else_lines_spec d (written_body ns d) ≡ [])) ⊎ ((w : List ℕ) × Spells-body (Named ns) d w × (else_lines_spec d (written_body ns d) ≡ codes "else" ++ (10 ∷ w)))
+else-spelt : (ns : List (List ℕ)) (d : Body) → SpellsBody (Named ns) d (written_body ns d) →
+    ((d ≡ end) × (else_lines_spec d (written_body ns d) ≡ [])) ⊎ ((w : List ℕ) × SpellsBody (Named ns) d w × (else_lines_spec d (written_body ns d) ≡ codes "else" ++ (10 ∷ w)))
 else-spelt ns d s = elim (cases_Bool (ended d)) [ inl e ↦ inl (ended_is d e, rw e) | inr e ↦ inr (written_body ns d, s, rw e) ]
 
-pub body-spelt : (ns : List (List ℕ)) (b : Body) → BodyFits (length ns) b → Spells-body (Named ns) b (written_body ns b)
-unfolding BodyFits Spells-body written_body
+pub body-spelt : (ns : List (List ℕ)) (b : Body) → BodyFits (length ns) b → SpellsBody (Named ns) b (written_body ns b)
+unfolding BodyFits SpellsBody written_body
 body-spelt ns end f = refl
 body-spelt ns (put k e b) f = (get_or ns k [], written_expr ns e, written_body ns b, (f.0, refl), expr-spelt ns e f.1, body-spelt ns b f.2, refl)
 body-spelt ns (read_shared k e b) f = (get_or ns k [], written_expr ns e, written_body ns b, (f.0, refl), expr-spelt ns e f.1, body-spelt ns b f.2, refl)

@@ -3,9 +3,9 @@ use Rattle.lanes.specs.Syntax.{Body}
 use Rattle.code.specs.declared.scan.Line.TheVariants.{Test, Loop}
 use Rattle.code.specs.Make.{Given, Branches}
 use Rattle.code.proofs.Inside.{kept-wider, kept-both, kept-none, wrote_kept}
-use Rattle.code.proofs.Makes.{given-first, first-room, given-else, last-room, branch-part}
+use Rattle.code.proofs.Makes.{given_first, first_room, given_else, last_room, branch_part}
 use Rattle.code.proofs.Bodies.{branching}
-use Rattle.code.proofs.Parts.{option-weaker, branch-deep, part_none, given-rest, part-more, stops-done, goes-room, plain-part, is_branch, flat-rest, no-else, given-second, second_none, second-some}
+use Rattle.code.proofs.Parts.{option-weaker, branch-deep, part_none, given-rest, part-more, stops-done, goes-room, plain-part, is_branch, flat-rest, no_else, given-second, second_none, second-some}
 use Rattle.code.proofs.compile.+compile_branch_compile_line_compile_lines_else_lines.Goals as goal
 
 pub compile_branch-returns-then-depth-eq0 : goal.compile_branch-returns-then-depth-eq0
@@ -13,10 +13,10 @@ compile_branch-returns-then-depth-eq0 t c = λ ns b z g br. omega (arith, branch
 
 pub compile_branch-returns-in_err-first : goal.compile_branch-returns-in_err-first
 compile_branch-returns-in_err-first t c =
-    rw c.from-residual.ensures
+    rw c.from_residual.ensures
     (λ ns b z g br.
     c.in_err-first.ensures ns _ _
-    (given-first ns c.args.text.now g.names c.args.expr c.args.looped b z c.args.p c.after-inside.result (c.args.depth - 1) c.args.depth c.args.room g br c.after-inside.ensures
+    (given_first ns c.args.text.now g.names c.args.expr c.args.looped b z c.args.p c.after-inside.result (c.args.depth - 1) c.args.depth c.args.room g br c.after-inside.ensures
     (omega (arith, c.if-depth-eq0.false))))
 
 pub compile_branch-returns-then-first-room : goal.compile_branch-returns-then-first-room
@@ -24,16 +24,16 @@ compile_branch-returns-then-first-room t c = λ ns b z g br.
     omega (
       arith,
       c.if-first-room.true,
-      first-room ns c.args.text.now g.names c.args.expr c.args.looped b z c.args.p c.after-inside.result (c.args.depth - 1) c.args.depth c.args.room g br c.after-inside.ensures
+      first_room ns c.args.text.now g.names c.args.expr c.args.looped b z c.args.p c.after-inside.result (c.args.depth - 1) c.args.depth c.args.room g br c.after-inside.ensures
           (omega (arith, c.if-depth-eq0.false)) _ _ c.in_ok-first.first c.in_ok-first.ensures,
     )
 
 pub compile_branch-returns-in_err-last : goal.compile_branch-returns-in_err-last
 compile_branch-returns-in_err-last t c =
-    rw c.from-residual-in_err-last.ensures
+    rw c.from_residual-in_err-last.ensures
     (λ ns b z g br.
     c.in_err-last.ensures ns _ _
-    (given-else ns c.args.text.now g.names c.args.expr c.args.looped b z c.args.p c.after-inside.result (c.args.depth - 1) c.args.depth c.args.room g br c.after-inside.ensures
+    (given_else ns c.args.text.now g.names c.args.expr c.args.looped b z c.args.p c.after-inside.result (c.args.depth - 1) c.args.depth c.args.room g br c.after-inside.ensures
     (omega (arith, c.if-depth-eq0.false)) _ _ c.in_ok-first.first c.in_ok-first.ensures))
 
 pub compile_branch-returns-then-last-room : goal.compile_branch-returns-then-last-room
@@ -41,7 +41,7 @@ compile_branch-returns-then-last-room t c = λ ns b z g br.
     omega (
       arith,
       c.if-last-room.true,
-      last-room ns c.args.text.now g.names c.args.expr c.args.looped b z c.args.p c.after-inside.result (c.args.depth - 1) c.args.depth c.args.room g br c.after-inside.ensures
+      last_room ns c.args.text.now g.names c.args.expr c.args.looped b z c.args.p c.after-inside.result (c.args.depth - 1) c.args.depth c.args.room g br c.after-inside.ensures
           (omega (arith, c.if-depth-eq0.false)) _ _ c.in_ok-first.first c.in_ok-first.ensures _ c.in_ok-last.last c.in_ok-last.ensures,
     )
 
@@ -69,7 +69,7 @@ compile_branch-returns t c =
       line = c.close.ensures.branch_line;
       further = omega arith;
       part = λ ns b z g br.
-          branch-part ns c.args.text.now g.names c.args.expr c.args.looped b z c.args.p c.after-inside.result (c.args.depth - 1) c.args.depth c.args.room g br c.after-inside.ensures
+          branch_part ns c.args.text.now g.names c.args.expr c.args.looped b z c.args.p c.after-inside.result (c.args.depth - 1) c.args.depth c.args.room g br c.after-inside.ensures
           (omega (arith, c.if-depth-eq0.false)) _ _ c.in_ok-first.first first _ c.in_ok-last.last last _ c.after.result c.close.ensures c.after.ensures;
     }
 
@@ -168,7 +168,7 @@ compile_lines-compile_line-requires t c = (
 
 pub compile_lines-returns-in_err-p : goal.compile_lines-returns-in_err-p
 compile_lines-returns-in_err-p t c =
-    rw c.from-residual.ensures
+    rw c.from_residual.ensures
     (λ ns b z g.
     c.in_err-p.ensures ns _ _
     (given-rest ns c.args.text.now z c.args.depth c.args.room c.loop-line.steps b c.args.from c.loop-line.p g (c.loop-line.invariant.1 ns b z g)))
@@ -202,12 +202,12 @@ else_lines-returns-in_default t c =
       fits = omega (arith, c.requires.entry);
       kept = kept-none c.args.steps.now (suc c.args.first.entry) (suc c.args.first.entry);
       done = λ ns d z g.
-          no-else ns c.args.text.now c.args.depth c.args.room d z c.args.steps.now c.args.first c.scan_line.result c.scan_line.ensures c.in_default.not-Otherwise g;
+          no_else ns c.args.text.now c.args.depth c.args.room d z c.args.steps.now c.args.first c.scan_line.result c.scan_line.ensures c.in_default.not-Otherwise g;
     }
 
 pub else_lines-returns-in_err-second : goal.else_lines-returns-in_err-second
 else_lines-returns-in_err-second t c =
-    rw c.from-residual.ensures
+    rw c.from_residual.ensures
     (λ ns d z g.
     c.in_err-second.ensures ns _ _
     (given-second ns c.args.text.now c.args.depth c.args.room d z c.args.first c.after-begin.result c.scan_line.result c.scan_line.ensures c.in-Otherwise.is c.after-begin.ensures g))

@@ -17,7 +17,7 @@ returns-else-number-lt4294967296 c ns n =
 
 pub returns-in_err-token : goal.returns-in_err-token
 returns-in_err-token c ns n =
-    let p = err_from_is_err_and c.from-residual.result c.from-residual.ensures.1 in
+    let p = err_from_is_err_and c.from_residual.result c.from_residual.ensures.1 in
     rw (p.1, p.2) (atom-err (place_in ns) _ _ _ (rw c.byte.ensures.is at (sym c.if-is_digit.ensures)) (c.in_err-token.ensures ns n))
 
 pub returns-in-Own : goal.returns-in-Own

@@ -7,7 +7,7 @@ use Rattle.grammar.proofs.exprs.operator.Goals as goal
 
 pub returns-in_err-at : goal.returns-in_err-at
 returns-in_err-at c =
-    let p = err_from_is_err_and c.from-residual.result c.from-residual.ensures.1 in
+    let p = err_from_is_err_and c.from_residual.result c.from_residual.ensures.1 in
     rw (p.1, p.2) (op-first c.args.text.now c.args.i _ c.in_err-at.ensures)
 
 pub returns-then-not-is_operator : goal.returns-then-not-is_operator

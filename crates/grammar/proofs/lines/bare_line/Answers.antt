@@ -7,7 +7,7 @@ use Rattle.grammar.proofs.lines.bare_line.Goals as goal
 
 pub returns-in_err-token : goal.returns-in_err-token
 returns-in_err-token c ns n =
-    let p = err_from_is_err_and c.from-residual.result c.from-residual.ensures.1 in
+    let p = err_from_is_err_and c.from_residual.result c.from_residual.ensures.1 in
     rw (p.1, p.2) (bare-err (place_in ns) c.args.text.now c.args.pos _ (c.in_err-token.ensures ns n))
 
 pub returns-in-Own : goal.returns-in-Own

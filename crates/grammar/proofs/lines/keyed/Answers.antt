@@ -37,12 +37,12 @@ returns-in-Lanes c ns n = key-lanes (place_in ns) c.args.text.now c.args.i c.arg
 
 pub returns-in_err-expr : goal.returns-in_err-expr
 returns-in_err-expr c ns n =
-    let p = err_from_is_err_and c.from-residual.result c.from-residual.ensures.1 in
+    let p = err_from_is_err_and c.from_residual.result c.from_residual.ensures.1 in
     rw (p.1, p.2) (then-err _ _ _ c.in_err-expr.ensures ∙ key-if (place_in ns) c.args.text.now c.args.i c.args.key c.in-If.is)
 
 pub returns-in_err-expr-2 : goal.returns-in_err-expr-2
 returns-in_err-expr-2 c ns n =
-    let p = err_from_is_err_and c.from-residual-in_err-expr-2.result c.from-residual-in_err-expr-2.ensures.1 in
+    let p = err_from_is_err_and c.from_residual-in_err-expr-2.result c.from_residual-in_err-expr-2.ensures.1 in
     rw (p.1, p.2) (then-err _ _ _ c.in_err-expr-2.ensures ∙ key-while (place_in ns) c.args.text.now c.args.i c.args.key c.in-While.is)
 
 pub returns-in_ok-expr : goal.returns-in_ok-expr

@@ -3,16 +3,16 @@ use Rattle.grammar.specs.Spelling.{Named}
 use Rattle.grammar.specs.Names.{NamesIn}
 use Rattle.grammar.specs.Walk.{place_in}
 use Rattle.grammar.specs.WalkLine.{line_at}
-use Rattle.grammar.proofs.Linewalks.{line-is}
+use Rattle.grammar.proofs.Linewalks.{line_is}
 use Rattle.grammar.proofs.Linehere.{line-done}
-use Rattle.grammar.proofs.Soundline.{line-sound, line_made}
+use Rattle.grammar.proofs.Soundline.{line_sound, line_made}
 use Rattle.grammar.proofs.Nameds.{place-named, named-place, named-name}
 use Rattle.grammar.proofs.lines.parse_line.Goals as goal
 
 pub returns : goal.returns
 returns c =
     let walk : (ns : List (List ℕ)) → NamesIn ns c.args.text.now → c.within_line.result ≡ line_at (place_in ns) c.args.text.now c.args.pos
-    = λ ns n. c.within_line.ensures ∙ line-is (place_in ns) c.args.text.now c.args.pos _ (c.bare_line.ensures ns n) in
+    = λ ns n. c.within_line.ensures ∙ line_is (place_in ns) c.args.text.now c.args.pos _ (c.bare_line.ensures ns n) in
     record {
       walk = walk;
       stands = λ ns n. line_made (place_in ns) c.args.text.now (Named ns) (length ns) (λ k u e. let p = place-named ns u k e in (p, p.0)) c.args.pos c.within_line.result (walk ns n);

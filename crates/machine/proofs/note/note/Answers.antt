@@ -4,7 +4,7 @@ use Rattle.store.specs.declared.Deed.{Deed}
 use Rattle.touches.specs.declared.Who.{Who}
 use Rattle.machine.specs.declared.outcome.Race.{Race}
 use Rattle.machine.specs.Sofar.{layout, Doing}
-use Rattle.machine.proofs.Noted.{After-race, noted-quiet, noted-wrong, noted-kept, noted-raced, keepable, rising}
+use Rattle.machine.proofs.Noted.{AfterRace, noted-quiet, noted-wrong, noted-kept, noted-raced, keepable, rising}
 use Rattle.machine.proofs.note.note.Goals as goal
 
 pub returns-in-Quiet : goal.returns-in-Quiet
@@ -39,7 +39,7 @@ returns-in-Some c = record {
       let ks = c.args.kept.now in
       let k' = subst (λ (x : Deed). Doing z at d ts ls cs ks ls' cs' g l p x) c.in-Touched.is k in
       let hl : who.line < 4294967296 = let e = is.line in let f = c.ranges.line.fits in omega arith in
-      subst (After-race z at d ts ls cs ks ls' cs' g l p s who k' is.group is.lane is.phase) (sym c.paired.ensures)
+      subst (AfterRace z at d ts ls cs ks ls' cs' g l p s who k' is.group is.lane is.phase) (sym c.paired.ensures)
       (noted-raced z at d ts ls cs ks ls' cs' g l p s who k' is.group is.lane is.phase c.touch.new.kept c.in-Some.found
       (c.in-Some.ensures.exact (layout z) s.place s.cell (marked z.lanes d ts)
       (keepable z at d ts ls cs ks ls' cs' g l p s who k' is.group is.lane is.phase hl) k.sofar.kept (rising z at d ts ls cs ks ls' cs' g l p s who k' is.group is.lane is.phase)));

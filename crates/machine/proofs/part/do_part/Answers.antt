@@ -1,5 +1,5 @@
 use Rattle.std.proofs.Common.{length}
-use Rattle.machine.proofs.Parted.{put-part, branch-part}
+use Rattle.machine.proofs.Parted.{put-part, branch_part}
 use Rattle.machine.proofs.part.do_part.Goals as goal
 
 pub returns-in-Put : goal.returns-in-Put
@@ -9,7 +9,7 @@ returns-in-Put c =
 
 pub returns-in-Branch : goal.returns-in-Branch
 returns-in-Branch c =
-    simp (c.in-Branch.is, c.branch_row.ensures) (branch-part c.args.z c.args.lanes.now c.args.cells.now c.args.marks.now c.args.part.group c.args.part.first c.args.work.stop c.args.xs.now c.args.ys.now c.requires.lent c.requires.watch c.requires.group
+    simp (c.in-Branch.is, c.branch_row.ensures) (branch_part c.args.z c.args.lanes.now c.args.cells.now c.args.marks.now c.args.part.group c.args.part.first c.args.work.stop c.args.xs.now c.args.ys.now c.requires.lent c.requires.watch c.requires.group
     c.in-Branch.yes c.in-Branch.no (length c.args.xs.now) c.requires.within)
 
 pub returns-in-Some : goal.returns-in-Some

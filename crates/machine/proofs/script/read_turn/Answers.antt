@@ -11,7 +11,7 @@ pub returns-in-Some : goal.returns-in-Some
 returns-in-Some c = of-cases c.args.bytes.now c.args.i c.in-Some.at c.in-Some.ensures c.lane_turn.result c.lane_turn.ensures
 
 pub returns-in_err-at : goal.returns-in_err-at
-returns-in_err-at c = none-case _ _ _ c.from-residual.ensures (no-turn c.args.bytes.now c.args.i c.in_default.ensures c.in_err-at.ensures)
+returns-in_err-at c = none-case _ _ _ c.from_residual.ensures (no-turn c.args.bytes.now c.args.i c.in_default.ensures c.in_err-at.ensures)
 
 pub returns : goal.returns
 returns c = release-cases c.args.bytes.now c.args.i c.in_ok-at.at c.in_ok-at.ensures c.group_turn.result c.group_turn.ensures

@@ -12,7 +12,7 @@ returns-then-pos-text t c = record { fewer = omega arith; walk = λ ns f n h. bl
 
 pub returns-in_err-lined : goal.returns-in_err-lined
 returns-in_err-lined t c =
-    let p = err_from_is_err_and c.from-residual.result c.from-residual.ensures.1 in
+    let p = err_from_is_err_and c.from_residual.result c.from_residual.ensures.1 in
     rw (p.1, p.2) (record { fewer = tt; walk = λ ns f n h. then-err _ _ _ (c.in_err-lined.ensures.walk ns n) ∙ block-step (place_in ns) c.args.text.now c.args.deep c.args.left c.args.pos c.args.some f h (omega arith) })
 
 pub returns-in-Plain : goal.returns-in-Plain
@@ -31,13 +31,13 @@ returns-in-Closes t c = record { fewer = omega arith; walk = λ ns f n h. block-
 
 pub returns-in_err-body : goal.returns-in_err-body
 returns-in_err-body t c =
-    let p = err_from_is_err_and c.from-residual-in_err-body.result c.from-residual-in_err-body.ensures.1 in
+    let p = err_from_is_err_and c.from_residual-in_err-body.result c.from_residual-in_err-body.ensures.1 in
     let m : 0 < c.args.left = c.in_ok-lined.ensures.more in
     rw (p.1, p.2) (record { fewer = tt; walk = λ ns f n h. then-err _ _ _ (c.in_err-body.ensures.walk ns (f - 1) n (omega arith) ∙ ap (λ d. block_at (place_in ns) c.args.text.now (f - 1) d (c.args.left - 1) c.in_ok-lined.lined.next false) c.saturating_sub.ensures) ∙ block-kind (place_in ns) c.args.text.now c.args.deep c.args.left c.args.pos c.args.some f c.in_ok-lined.lined Loops h (omega arith) (c.in_ok-lined.ensures.walk ns n) c.in-Loops.ensures })
 
 pub returns-in_err-end : goal.returns-in_err-end
 returns-in_err-end t c =
-    let p = err_from_is_err_and c.from-residual-in_err-end.result c.from-residual-in_err-end.ensures.1 in
+    let p = err_from_is_err_and c.from_residual-in_err-end.result c.from_residual-in_err-end.ensures.1 in
     let m : 0 < c.args.left = c.in_ok-lined.ensures.more in
     rw (p.1, p.2) (record { fewer = tt; walk = λ ns f n h. then-err _ _ _ c.in_err-end.ensures ∙ then_ok _ _ _ (c.in_ok-body.ensures.walk ns (f - 1) n (omega arith) ∙ ap (λ d. block_at (place_in ns) c.args.text.now (f - 1) d (c.args.left - 1) c.in_ok-lined.lined.next false) c.saturating_sub.ensures) ∙ block-kind (place_in ns) c.args.text.now c.args.deep c.args.left c.args.pos c.args.some f c.in_ok-lined.lined Loops h (omega arith) (c.in_ok-lined.ensures.walk ns n) c.in-Loops.ensures })
 
@@ -53,20 +53,20 @@ returns-in_ok-end t c =
 
 pub returns-in_err-first : goal.returns-in_err-first
 returns-in_err-first t c =
-    let p = err_from_is_err_and c.from-residual-in_err-first.result c.from-residual-in_err-first.ensures.1 in
+    let p = err_from_is_err_and c.from_residual-in_err-first.result c.from_residual-in_err-first.ensures.1 in
     let m : 0 < c.args.left = c.in_ok-lined.ensures.more in
     rw (p.1, p.2) (record { fewer = tt; walk = λ ns f n h. then-err _ _ _ (c.in_err-first.ensures.walk ns (f - 1) n (omega arith) ∙ ap (λ d. block_at (place_in ns) c.args.text.now (f - 1) d (c.args.left - 1) c.in_ok-lined.lined.next false) c.saturating_sub-in-Opens.ensures) ∙ block-kind (place_in ns) c.args.text.now c.args.deep c.args.left c.args.pos c.args.some f c.in_ok-lined.lined Opens h (omega arith) (c.in_ok-lined.ensures.walk ns n) c.in-Opens.ensures })
 
 pub returns-in_err-second : goal.returns-in_err-second
 returns-in_err-second t c =
-    let p = err_from_is_err_and c.from-residual-in_err-second.result c.from-residual-in_err-second.ensures.1 in
+    let p = err_from_is_err_and c.from_residual-in_err-second.result c.from_residual-in_err-second.ensures.1 in
     let m : 0 < c.args.left = c.in_ok-lined.ensures.more in
     let q : c.in_ok-first.first.left ≤ c.args.left - 1 = c.in_ok-first.ensures.fewer in
     rw (p.1, p.2) (record { fewer = tt; walk = λ ns f n h. then-err _ _ _ (c.in_err-second.ensures.walk ns (f - 1) n (omega arith) ∙ ap (λ d. block_at (place_in ns) c.args.text.now (f - 1) d c.in_ok-first.first.left c.in_ok-first.first.next false) c.saturating_sub-then-is_else.ensures) ∙ cond-taken _ _ _ (sym c.if-is_else.ensures) ∙ then_ok _ _ _ (c.in_ok-first.ensures.walk ns (f - 1) n (omega arith) ∙ ap (λ d. block_at (place_in ns) c.args.text.now (f - 1) d (c.args.left - 1) c.in_ok-lined.lined.next false) c.saturating_sub-in-Opens.ensures) ∙ block-kind (place_in ns) c.args.text.now c.args.deep c.args.left c.args.pos c.args.some f c.in_ok-lined.lined Opens h (omega arith) (c.in_ok-lined.ensures.walk ns n) c.in-Opens.ensures })
 
 pub returns-in_err-last : goal.returns-in_err-last
 returns-in_err-last t c =
-    let p = err_from_is_err_and c.from-residual-in_err-last.result c.from-residual-in_err-last.ensures.1 in
+    let p = err_from_is_err_and c.from_residual-in_err-last.result c.from_residual-in_err-last.ensures.1 in
     let m : 0 < c.args.left = c.in_ok-lined.ensures.more in
     let q : c.in_ok-first.first.left ≤ c.args.left - 1 = c.in_ok-first.ensures.fewer in
     rw (p.1, p.2) (record { fewer = tt; walk = λ ns f n h. then-err _ _ _ c.in_err-last.ensures ∙ then_ok _ _ _ (c.in_ok-second.ensures.walk ns (f - 1) n (omega arith) ∙ ap (λ d. block_at (place_in ns) c.args.text.now (f - 1) d c.in_ok-first.first.left c.in_ok-first.first.next false) c.saturating_sub-then-is_else.ensures) ∙ cond-taken _ _ _ (sym c.if-is_else.ensures) ∙ then_ok _ _ _ (c.in_ok-first.ensures.walk ns (f - 1) n (omega arith) ∙ ap (λ d. block_at (place_in ns) c.args.text.now (f - 1) d (c.args.left - 1) c.in_ok-lined.lined.next false) c.saturating_sub-in-Opens.ensures) ∙ block-kind (place_in ns) c.args.text.now c.args.deep c.args.left c.args.pos c.args.some f c.in_ok-lined.lined Opens h (omega arith) (c.in_ok-lined.ensures.walk ns n) c.in-Opens.ensures })
@@ -84,7 +84,7 @@ returns-then-is_else t c =
 
 pub returns-in_err-end-2 : goal.returns-in_err-end-2
 returns-in_err-end-2 t c =
-    let p = err_from_is_err_and c.from-residual-in_err-end-2.result c.from-residual-in_err-end-2.ensures.1 in
+    let p = err_from_is_err_and c.from_residual-in_err-end-2.result c.from_residual-in_err-end-2.ensures.1 in
     let m : 0 < c.args.left = c.in_ok-lined.ensures.more in
     let q : c.in_ok-first.first.left ≤ c.args.left - 1 = c.in_ok-first.ensures.fewer in
     rw (p.1, p.2) (record { fewer = tt; walk = λ ns f n h. then-err _ _ _ c.in_err-end-2.ensures ∙ cond-passed _ _ _ (sym c.if-is_else.ensures) ∙ then_ok _ _ _ (c.in_ok-first.ensures.walk ns (f - 1) n (omega arith) ∙ ap (λ d. block_at (place_in ns) c.args.text.now (f - 1) d (c.args.left - 1) c.in_ok-lined.lined.next false) c.saturating_sub-in-Opens.ensures) ∙ block-kind (place_in ns) c.args.text.now c.args.deep c.args.left c.args.pos c.args.some f c.in_ok-lined.lined Opens h (omega arith) (c.in_ok-lined.ensures.walk ns n) c.in-Opens.ensures })

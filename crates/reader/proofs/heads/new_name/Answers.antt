@@ -1,7 +1,7 @@
 use Rattle.std.proofs.Common.{◌≡◌, ◌<◌, ◌≤◌, true, false, length, get_or, sym, refl, ap, ◌∙◌, arith}
 use Rattle.grammar.specs.Spelling.{letter}
 use Rattle.grammar.proofs.Runs.{nonzero}
-use Rattle.reader.proofs.Names.{name-not, name-long, name-key, name-twice, name-many, name-ok}
+use Rattle.reader.proofs.Names.{name-not, name_long, name-key, name-twice, name-many, name-ok}
 use Rattle.reader.proofs.heads.new_name.Goals as goal
 
 pub returns-then-not-is_letter : goal.returns-then-not-is_letter
@@ -9,7 +9,7 @@ returns-then-not-is_letter c seen z e w a d = name-not seen c.args.text.now c.ar
 
 pub returns-then-end-i-gt8 : goal.returns-then-end-i-gt8
 returns-then-end-i-gt8 c seen z e w a d =
-    name-long seen c.args.text.now c.args.i _ (rw c.byte.ensures.is at (sym c.if-not-is_letter.ensures)) c.word_end-end.ensures c.if-end-i-gt8.true
+    name_long seen c.args.text.now c.args.i _ (rw c.byte.ensures.is at (sym c.if-not-is_letter.ensures)) c.word_end-end.ensures c.if-end-i-gt8.true
 
 pub returns-in-Some : goal.returns-in-Some
 returns-in-Some c seen z e w a d =

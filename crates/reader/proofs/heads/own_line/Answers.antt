@@ -18,14 +18,14 @@ loop-at-init c =
 
 pub returns-in_err-at : goal.returns-in_err-at
 returns-in_err-at c =
-    let p = err_from_is_err_and c.from-residual.result c.from-residual.ensures.1 in
+    let p = err_from_is_err_and c.from_residual.result c.from_residual.ensures.1 in
     let m = c.loop-at.invariant.0 in
     let v = c.loop-at.invariant.1 in
     rw (p.1, p.2) (ap counted (then-err _ _ _ c.in_err-at.ensures ∙ names-step c.args.text.now (66 - c.loop-at.many) v.0 c.loop-at.end (omega arith) ∙ v.3))
 
 pub returns-in_err-end : goal.returns-in_err-end
 returns-in_err-end c =
-    let p = err_from_is_err_and c.from-residual-in_err-end.result c.from-residual-in_err-end.ensures.1 in
+    let p = err_from_is_err_and c.from_residual-in_err-end.result c.from_residual-in_err-end.ensures.1 in
     let m = c.loop-at.invariant.0 in
     let v = c.loop-at.invariant.1 in
     rw (p.1, p.2) (ap counted (then-err _ _ _ (c.in_err-end.ensures v.0 _ v.1 (walk-words _ _ _ v.2) v.2.apart v.2.here) ∙ then_ok _ _ _ c.in_ok-at.ensures

@@ -114,8 +114,19 @@ def joined(parts, known, spell):
     return "-".join(out)
 
 
+def borrowed(root):
+    """The names that are taken from the kit's libraries: they stay."""
+    kit = set()
+    for path in files(root, ".antt", ".rt"):
+        for names in re.findall(r"\buse Rattle\.(?:std|core|io)\.[\w.+]*\.\{([^}]*)\}", read(path)):
+            for item in names.split(","):
+                kit.update(item.split(" as ")[0].split())
+    return kit
+
+
 def table(root):
-    words, lemmas = declared(root)
+    kit = borrowed(root)
+    words, lemmas = (names - kit for names in declared(root))
     rows = {w: turned(w) for w in words}
     for name in lemmas:
         new = joined(name.split("-"), lambda run: "-".join(run) in words and len(run) > 1, lambda run: turned("-".join(run)))

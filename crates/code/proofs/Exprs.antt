@@ -1,6 +1,6 @@
 -- How far an expression goes in a text, and what it is made of.
 use Rattle.std.proofs.Common.{◌≡◌, ℕ, zero, suc, ◌+◌, ◌-◌, ◌<◌, ◌≤◌, Bool, true, false, cond, not, ◌&&◌, eqb, leb, ◌≢◌, ◌⊎◌, List, [], ◌∷◌, ◌++◌, length, get_or, drop, codes, sym, refl, ap, ◌∙◌, inl, inr, append_assoc, arith}
-use Rattle.std.proofs.lemmas.List.{length_append, get_or_append_left}
+use Rattle.std.proofs.lemmas.List.{length-append, get_or_append_left}
 use Rattle.std.proofs.lemmas.Bool.{and_parts, and_from, or_left, or_right, true≢false, cases_lt, cases_eq, both_ways}
 use Rattle.std.proofs.lemmas.Bool.Decides.{nat_tests}
 use Rattle.lanes.specs.Syntax.{Expr, fixed, var, lane, group, lanes, plus, minus, times, over, rest_of, less, same}
@@ -36,7 +36,7 @@ infix-append u v w op =
     ap (λ t. 40 ∷ t) (append_assoc u (32 ∷ op ∷ 32 ∷ (v ++ (41 ∷ []))) w ∙ ap (λ t. u ++ (32 ∷ op ∷ 32 ∷ t)) (append_assoc v (41 ∷ []) w))
 
 infix-length : (u v : List ℕ) (op : ℕ) → length (infix_of u op v) ≡ 5 + (length u + length v)
-infix-length u v op = simp length_append (omega arith)
+infix-length u v op = simp length-append (omega arith)
 
 -- The brackets of (u op v), whose parts go by.
 infix-passes : (u v : List ℕ) (op d : ℕ) (w : List ℕ) → op ≢ 40 → op ≢ 41 → ((t : List ℕ) → closing (suc d) (u ++ t) ≡ length u + closing (suc d) t)

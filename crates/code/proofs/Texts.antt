@@ -1,7 +1,7 @@
 -- Parts of a text from a byte on.
 use Rattle.std.proofs.Common.{◌≡◌, ℕ, zero, suc, ◌+◌, ◌-◌, ◌<◌, ◌≤◌, Bool, true, false, cond, not, ◌&&◌, eqb, leb, ◌≢◌, ◌⊎◌, List, [], ◌∷◌, ◌++◌, length, get_or, take, drop, sym, refl, ap, ◌∙◌, inl, inr, add-zero, arith}
 use Rattle.std.specs.List.{between}
-use Rattle.std.proofs.lemmas.List.{drop_at, drop-drop, take_at, drop_more, get_or_past, length_append, length-drop, at_drop_more, get_or-drop}
+use Rattle.std.proofs.lemmas.List.{drop_at, drop-drop, take_at, drop_more, get_or_past, length-append, length-drop, at_drop_more, get_or-drop}
 use Rattle.std.proofs.lemmas.Bool.{and_parts, and_from, cases_order, eq-eqb, ne_eqb, le-leb, lt-leb, cases_lt}
 use Rattle.std.proofs.lemmas.Bool.Decides.{nat_tests}
 use Rattle.grammar.specs.Spelling.{word_byte, each_byte}
@@ -26,7 +26,7 @@ word_at text u z i r w e h a =
 -- Byte i lies in the text, if something stands there.
 pub within : (text u z : List ℕ) (i b : ℕ) → drop i text ≡ u ++ (b ∷ z) → i + length u < length text
 within text u z i b e =
-    let n : length (drop i text) ≡ length u + length (b ∷ z) = ap length e ∙ length_append u (b ∷ z) in
+    let n : length (drop i text) ≡ length u + length (b ∷ z) = ap length e ∙ length-append u (b ∷ z) in
     omega (arith, n, length-drop i text)
 
 in_line-not : (b : ℕ) → in_line b ≡ true → b ≢ 10

@@ -1,6 +1,6 @@
 -- One piece written behind another.
 use Rattle.std.proofs.Common.{◌≡◌, ℕ, suc, ◌+◌, ◌<◌, ◌≤◌, List, [], ◌∷◌, ◌++◌, length, take, drop, set, sym, refl, ap, ◌∙◌, add-zero, add_assoc, add-one, arith}
-use Rattle.std.proofs.lemmas.List.{append_assoc, append-nil, length_append, length-take-le, set_split, take_at, drop_at, drop-drop, take-append-drop}
+use Rattle.std.proofs.lemmas.List.{append_assoc, append-nil, length-append, length-take-le, set_split, take_at, drop_at, drop-drop, take-append-drop}
 use Rattle.formats.specs.Wrote.{written, Wrote}
 
 pub wrote_none : (b : List ℕ) (at : ℕ) → Wrote b b at at []
@@ -16,7 +16,7 @@ written-front : (b ws : List ℕ) (at : ℕ) → at ≤ length b → take (at + 
 unfolding written
 written-front b ws at h =
     rw (sym (append_assoc (take at b) ws (drop (at + length ws) b)))
-    (take_at (take at b ++ ws) (drop (at + length ws) b) (at + length ws) (length_append (take at b) ws ∙ ap (λ n. n + length ws) (length-take-le at b h)))
+    (take_at (take at b ++ ws) (drop (at + length ws) b) (at + length ws) (length-append (take at b) ws ∙ ap (λ n. n + length ws) (length-take-le at b h)))
 
 written-rest : (b ws : List ℕ) (at k : ℕ) → at ≤ length b → drop (at + length ws + k) (written b at ws) ≡ drop (at + length ws + k) b
 unfolding written
@@ -24,7 +24,7 @@ written-rest b ws at k h =
     rw (
       sym (drop-drop k (at + length ws) (take at b ++ (ws ++ drop (at + length ws) b))),
       sym (append_assoc (take at b) ws (drop (at + length ws) b)),
-      drop_at (take at b ++ ws) (drop (at + length ws) b) (at + length ws) (length_append (take at b) ws ∙ ap (λ n. n + length ws) (length-take-le at b h)),
+      drop_at (take at b ++ ws) (drop (at + length ws) b) (at + length ws) (length-append (take at b) ws ∙ ap (λ n. n + length ws) (length-take-le at b h)),
     )
     (drop-drop k (at + length ws) b)
 
@@ -34,13 +34,13 @@ written_is xs ws at = refl
 
 pub written-more : (b ws vs : List ℕ) (at : ℕ) → at ≤ length b → written (written b at ws) (at + length ws) vs ≡ written b at (ws ++ vs)
 written-more b ws vs at h =
-    rw (written_is (written b at ws) vs (at + length ws), written-front b ws at h, written-rest b ws at (length vs) h, written_is b (ws ++ vs) at, length_append ws vs, add_assoc at (length ws) (length vs))
+    rw (written_is (written b at ws) vs (at + length ws), written-front b ws at h, written-rest b ws at (length vs) h, written_is b (ws ++ vs) at, length-append ws vs, add_assoc at (length ws) (length vs))
     (simp append_assoc)
 
 pub wrote-more : (b m a : List ℕ) (at k to : ℕ) (ws vs : List ℕ) → at ≤ length b → Wrote b m at k ws → Wrote m a k to vs → Wrote b a at to (ws ++ vs)
 wrote-more b m a at k to ws vs h p q =
     record {
-      ends = rw length_append (omega (arith, p.ends, q.ends));
+      ends = rw length-append (omega (arith, p.ends, q.ends));
       bytes = rw (q.bytes, p.ends, p.bytes) (written-more b ws vs at h);
     }
 

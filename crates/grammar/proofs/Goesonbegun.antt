@@ -1,7 +1,7 @@
 -- What is refused for its shape can go on up to the place where it is refused: lines. A line that is begun goes on to a body of one line,
 -- or to an if or a while with its end.
 use Rattle.std.proofs.Common.{◌≡◌, ℕ, zero, suc, ◌+◌, ◌-◌, ◌<◌, ◌≤◌, Bool, true, false, cond, eqb, ltb, ◌≢◌, ◌⊎◌, List, [], ◌∷◌, ◌++◌, length, get_or, take, drop, Some, None, Ok, Err, codes, Option, Result, sym, refl, ap, ◌∙◌, inl, inr, arith}
-use Rattle.std.proofs.lemmas.List.{append_assoc, length_append}
+use Rattle.std.proofs.lemmas.List.{append_assoc, length-append}
 use Rattle.lanes.specs.Syntax.{Expr, Body, end, put, read_shared, write_shared, read_all, write_all, barrier, when, while}
 use Rattle.grammar.specs.Spelling.{word_byte, IsName, SpellsExpr, SpellsBody, AnyName}
 use Rattle.grammar.specs.Refusals.{place_of}
@@ -282,7 +282,7 @@ module _ (text : List ℕ) (find : List ℕ → Option ℕ) (o : ℕ) (finds : (
   got-from L i n w z h e m = let q : drop n text ≡ z = ap (λ k. drop k text) m ∙ past text i w z e in record { bytes = w; is = h; here = e ∙ ap (λ t. w ++ t) (sym q); end_is = m }
 
   long-line : (a c u : List ℕ) → length (a ++ (c ++ (u ++ (10 ∷ [])))) ≡ length a + (length c + (length u + 1))
-  long-line a c u = omega (arith, length_append a (c ++ (u ++ (10 ∷ []))), length_append c (u ++ (10 ∷ [])), length_append u (10 ∷ []))
+  long-line a c u = omega (arith, length-append a (c ++ (u ++ (10 ∷ []))), length-append c (u ++ (10 ∷ [])), length-append u (10 ∷ []))
 
   split-line : (a c u z : List ℕ) → a ++ (c ++ (u ++ (10 ∷ z))) ≡ (a ++ (c ++ (u ++ (10 ∷ [])))) ++ z
   split-line a c u z = sym (append_assoc a (c ++ (u ++ (10 ∷ []))) z ∙ ap (λ r. a ++ r) (append_assoc c (u ++ (10 ∷ [])) z ∙ ap (λ r. c ++ r) (append_assoc u (10 ∷ []) z)))

@@ -1,6 +1,6 @@
 -- What is refused for its shape can go on up to the place where it is refused: words and expressions.
 use Rattle.std.proofs.Common.{◌≡◌, ℕ, zero, suc, ◌+◌, ◌-◌, ◌<◌, ◌≤◌, Bool, true, false, cond, not, ◌&&◌, ◌||◌, eqb, ltb, leb, ◌⊎◌, List, [], ◌∷◌, ◌++◌, length, get_or, take, drop, Some, None, Ok, Err, codes, Option, Result, sym, refl, ap, ◌∙◌, inl, inr, add-zero, arith}
-use Rattle.std.proofs.lemmas.List.{append_assoc, append-nil, length_append, take-append-drop, take-take, drop-drop, length-take-le, get_or-take, get_or-drop}
+use Rattle.std.proofs.lemmas.List.{append_assoc, append-nil, length-append, take-append-drop, take-take, drop-drop, length-take-le, get_or-take, get_or-drop}
 use Rattle.std.proofs.lemmas.Bool.{and_parts, or_cases, eqb-true, eqb-false, not-true, leb-true, cases_Bool, both_ways}
 use Rattle.lanes.specs.Syntax.{Expr, fixed, var, lane, group, lanes, plus, minus, times, over, rest_of, less, same}
 use Rattle.grammar.specs.Spelling.{letter, digit, word_byte, each_byte, same_bytes, one_of, keywords, decimal, IsName, IsNumber, infix_of, SpellsExpr, AnyName}
@@ -148,7 +148,7 @@ module _ (text : List ℕ) where
         more = f.more;
         is = record { left = g.bytes; right = f.upto ++ f.more; one = g.is; two = f.is; is = append_assoc g.bytes f.upto f.more };
         here = g.here ∙ ap (λ t. g.bytes ++ t) f.here ∙ sym (append_assoc g.bytes f.upto (drop p text));
-        end_is = omega (arith, g.end_is, f.end_is, length_append g.bytes f.upto);
+        end_is = omega (arith, g.end_is, f.end_is, length-append g.bytes f.upto);
       }
 
   pub got_both : (L M : List ℕ → Type 0) (i j k : ℕ) → Got L i j → Got M j k → Got (Both L M) i k
@@ -157,7 +157,7 @@ module _ (text : List ℕ) where
         bytes = g.bytes ++ f.bytes;
         is = record { left = g.bytes; right = f.bytes; one = g.is; two = f.is; is = refl };
         here = g.here ∙ ap (λ t. g.bytes ++ t) f.here ∙ sym (append_assoc g.bytes f.bytes (drop k text));
-        end_is = omega (arith, g.end_is, f.end_is, length_append g.bytes f.bytes);
+        end_is = omega (arith, g.end_is, f.end_is, length-append g.bytes f.bytes);
       }
 
   -- a step, and then another

@@ -1,6 +1,6 @@
 -- What has the shape of an expression or a line is never refused for its shape.
 use Rattle.std.proofs.Common.{◌≡◌, ℕ, zero, suc, ◌+◌, ◌-◌, ◌<◌, ◌≤◌, Bool, true, false, cond, not, ◌&&◌, ◌||◌, eqb, ltb, leb, ◌⊎◌, List, [], ◌∷◌, ◌++◌, length, get_or, take, drop, Some, None, Ok, Err, codes, Option, Result, sym, refl, ap, ◌∙◌, inl, inr, arith}
-use Rattle.std.proofs.lemmas.List.{append_assoc, length_append}
+use Rattle.std.proofs.lemmas.List.{append_assoc, length-append}
 use Rattle.std.proofs.lemmas.Bool.Decides.{nat_tests}
 use Rattle.lanes.specs.Syntax.{Expr, fixed, var, lane, group, lanes, plus, minus, times, over, rest_of, less, same}
 use Rattle.grammar.specs.Spelling.{letter, digit, word_byte, each_byte, IsName, IsNumber, infix_of, SpellsExpr, AnyName}
@@ -112,7 +112,7 @@ module _ (find : List ℕ → Option ℕ) (text : List ℕ) where
       let x2 : drop ((i + 1) + length u) text ≡ 32 ∷ op ∷ 32 ∷ (v ++ (41 ∷ z)) = past text (i + 1) u _ x1 in
       let x3 : drop (((i + 1) + length u) + 3) text ≡ v ++ (41 ∷ z) = past text ((i + 1) + length u) (32 ∷ op ∷ 32 ∷ []) _ x2 in
       let x4 : drop ((((i + 1) + length u) + 3) + length v) text ≡ 41 ∷ z = past text (((i + 1) + length u) + 3) v _ x3 in
-      let len : length w ≡ 1 + (length u + (3 + (length v + 1))) = ap length q ∙ omega (arith, length_append u (32 ∷ op ∷ 32 ∷ (v ++ (41 ∷ []))), length_append v (41 ∷ [])) in
+      let len : length w ≡ 1 + (length u + (3 + (length v + 1))) = ap length q ∙ omega (arith, length-append u (32 ∷ op ∷ 32 ∷ (v ++ (41 ∷ []))), length-append v (41 ∷ [])) in
       let end : ((((i + 1) + length u) + 3) + length v) + 1 ≡ i + length w = omega (arith, len) in
       rw (first_byte text i 40 _ x0)
       (good-then (expr_at find text n (i + 1)) _ (At ((i + 1) + length u)) (At (i + length w)) (ru n (i + 1) _ x1 refl)

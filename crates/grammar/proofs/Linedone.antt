@@ -1,6 +1,6 @@
 -- A line that stands at a byte is read there, as that line.
 use Rattle.std.proofs.Common.{◌≡◌, ℕ, zero, suc, ◌+◌, ◌-◌, ◌*◌, ◌<◌, ◌≤◌, max, Bool, true, false, cond, not, ◌&&◌, ◌||◌, eqb, ltb, List, [], ◌∷◌, ◌++◌, length, get_or, take, drop, Some, None, Ok, Err, codes, Option, Result, sym, refl, ap, ◌∙◌, arith}
-use Rattle.std.proofs.lemmas.List.{append_assoc, length_append}
+use Rattle.std.proofs.lemmas.List.{append_assoc, length-append}
 use Rattle.std.proofs.lemmas.Bool.{and_parts, le-ltb, ne_eqb, eqb-true}
 use Rattle.std.proofs.lemmas.Bool.Decides.{nat_tests}
 use Rattle.lanes.specs.Syntax.{Expr, fixed, var, lane, group, lanes, plus, minus, times, over, rest_of, less, same}
@@ -24,7 +24,7 @@ use Rattle.grammar.proofs.Spelled.{brackets, ReadsExpr, expr-done}
 -- fewer brackets than bytes
 module _ (N : ℕ → List ℕ → Type 0) where
   infix-long : (u v : List ℕ) (op m n : ℕ) → m ≤ length u → n ≤ length v → suc (max m n) ≤ length (infix_of u op v)
-  infix-long u v op m n h k = omega (arith, length_append u (32 ∷ op ∷ 32 ∷ (v ++ (41 ∷ []))), length_append v (41 ∷ []))
+  infix-long u v op m n h k = omega (arith, length-append u (32 ∷ op ∷ 32 ∷ (v ++ (41 ∷ []))), length-append v (41 ∷ []))
 
   pub brackets-few : (e : Expr) (u : List ℕ) → SpellsExpr N e u → brackets e ≤ length u
   unfolding SpellsExpr brackets

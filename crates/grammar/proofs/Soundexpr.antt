@@ -114,9 +114,9 @@ module _ (find : List ℕ → Option ℕ) (text : List ℕ) (N : ℕ → List �
             ]
       ]
 
-  length_append : (u v : List ℕ) → length (u ++ v) ≡ length u + length v
-  length_append [] v = omega arith
-  length_append (b ∷ u) v = let h = length_append u v in omega (arith, h)
+  length-append : (u v : List ℕ) → length (u ++ v) ≡ length u + length v
+  length-append [] v = omega arith
+  length-append (b ∷ u) v = let h = length-append u v in omega (arith, h)
 
   three : (text : List ℕ) (i j op : ℕ) → operator_at text i ≡ Ok j → j ≡ i + 3
   unfolding operator_at
@@ -139,7 +139,7 @@ module _ (find : List ℕ → Option ℕ) (text : List ℕ) (N : ℕ → List �
         spelling = infix_of u s.0 v;
         is = binary_expr s.0 u v s.1 x.is y.is;
         here = h ∙ ap (λ w. 40 ∷ w) (ap (λ w. u ++ (32 ∷ s.0 ∷ 32 ∷ w)) (sym (append_assoc v (41 ∷ []) (drop m text))) ∙ sym (append_assoc u (32 ∷ s.0 ∷ 32 ∷ (v ++ (41 ∷ []))) (drop m text)));
-        end_is = omega (arith, x.end_is, three text j k s.0 p, y.end_is, t.1, length_append u (32 ∷ s.0 ∷ 32 ∷ (v ++ (41 ∷ []))), length_append v (41 ∷ []));
+        end_is = omega (arith, x.end_is, three text j k s.0 p, y.end_is, t.1, length-append u (32 ∷ s.0 ∷ 32 ∷ (v ++ (41 ∷ []))), length-append v (41 ∷ []));
       }
 
   pub expr_sound : (n i j : ℕ) → expr_at find text n i ≡ Ok j → ReadExpr i j

@@ -1,6 +1,6 @@
 -- An expression that is spelled at a byte is read there, to its end.
 use Rattle.std.proofs.Common.{◌≡◌, ℕ, zero, suc, ◌+◌, ◌-◌, ◌*◌, ◌<◌, ◌≤◌, max, Bool, true, false, cond, not, ◌&&◌, ◌||◌, eqb, ltb, List, [], ◌∷◌, ◌++◌, length, get_or, take, drop, Some, None, Ok, Err, codes, Option, Result, sym, refl, ap, ◌∙◌, arith}
-use Rattle.std.proofs.lemmas.List.{append_assoc, length_append}
+use Rattle.std.proofs.lemmas.List.{append_assoc, length-append}
 use Rattle.std.proofs.lemmas.Bool.{and_parts, or_parts, lt-ltb, eq-eqb, ne_eqb}
 use Rattle.std.proofs.lemmas.Bool.Decides.{nat_tests}
 use Rattle.lanes.specs.Syntax.{Expr, fixed, var, lane, group, lanes, plus, minus, times, over, rest_of, less, same}
@@ -100,7 +100,7 @@ module _ (find : List ℕ → Option ℕ) (text : List ℕ) where
       let x2 : drop ((i + 1) + length u) text ≡ 32 ∷ op ∷ 32 ∷ (v ++ (41 ∷ z)) = past text (i + 1) u _ x1 in
       let x3 : drop (((i + 1) + length u) + 3) text ≡ v ++ (41 ∷ z) = past text ((i + 1) + length u) (32 ∷ op ∷ 32 ∷ []) _ x2 in
       let x4 : drop ((((i + 1) + length u) + 3) + length v) text ≡ 41 ∷ z = past text (((i + 1) + length u) + 3) v _ x3 in
-      let len : length (infix_of u op v) ≡ 1 + (length u + (3 + (length v + 1))) = omega (arith, length_append u (32 ∷ op ∷ 32 ∷ (v ++ (41 ∷ []))), length_append v (41 ∷ [])) in
+      let len : length (infix_of u op v) ≡ 1 + (length u + (3 + (length v + 1))) = omega (arith, length-append u (32 ∷ op ∷ 32 ∷ (v ++ (41 ∷ []))), length-append v (41 ∷ [])) in
       rw (first_byte text i 40 _ x0, ru (i + 1) _ x1 refl, operator-done ((i + 1) + length u) op _ o x2, rv (((i + 1) + length u) + 3) _ x3 refl)
       (bytes-done text ((((i + 1) + length u) + 3) + length v) (41 ∷ []) z refl x4 ∙ ap (λ m. Ok m) (omega (arith, len)))
 

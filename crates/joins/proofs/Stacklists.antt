@@ -1,5 +1,5 @@
 -- The stack as a list of joins: one put on top, one changed, one taken out.
-use Rattle.std.proofs.Common.{◌≡◌, ℕ, zero, suc, ◌+◌, ◌-◌, ◌<◌, ◌≤◌, Bool, true, false, cond, eqb, ◌⊎◌, List, [], ◌∷◌, ◌++◌, length, sym, refl, ap, ◌∙◌, ap₂, inl, inr, arith, length_append}
+use Rattle.std.proofs.Common.{◌≡◌, ℕ, zero, suc, ◌+◌, ◌-◌, ◌<◌, ◌≤◌, Bool, true, false, cond, eqb, ◌⊎◌, List, [], ◌∷◌, ◌++◌, length, sym, refl, ap, ◌∙◌, ap₂, inl, inr, arith, length-append}
 use Rattle.std.proofs.lemmas.Bool.{eq-eqb, ne_eqb, cases_eq}
 use Rattle.masks.specs.Masks.{lacking}
 use Rattle.joins.specs.declared.Join.{Join}
@@ -50,7 +50,7 @@ leaves-past (j ∷ js) k mask h = leaves-above j js k mask (λ e. omega arith) �
 pub leaves-middle : (above : List Join) (j : Join) (below : List Join) (mask : ℕ) → leaves (above ++ (j ∷ below)) (length below) mask ≡ above ++ kept_on (lost j mask) below
 leaves-middle [] j below mask = leaves-here j below (length below) mask refl
 leaves-middle (x ∷ above) j below mask =
-    let e = length_append above (j ∷ below) in
+    let e = length-append above (j ∷ below) in
     leaves-above x (above ++ (j ∷ below)) (length below) mask (λ q. omega arith) ∙ ap (λ (xs : List Join). x ∷ xs) (leaves-middle above j below mask)
 
 pub kept-none : (j : Join) (js : List Join) → j.lanes ≡ 0 → kept_on j js ≡ js

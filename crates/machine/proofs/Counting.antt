@@ -1,5 +1,5 @@
 -- How many lanes are in a mask, and that its row of turns has as many steps.
-use Rattle.std.proofs.Common.{◌≡◌, ℕ, zero, suc, ◌+◌, ◌<◌, ◌≤◌, Bool, true, false, cond, ◌⊎◌, List, [], ◌∷◌, ◌++◌, length, sym, refl, ap, ◌∙◌, subst, inl, inr, append-nil, add-zero, add-one, arith, length_append}
+use Rattle.std.proofs.Common.{◌≡◌, ℕ, zero, suc, ◌+◌, ◌<◌, ◌≤◌, Bool, true, false, cond, ◌⊎◌, List, [], ◌∷◌, ◌++◌, length, sym, refl, ap, ◌∙◌, subst, inl, inr, append-nil, add-zero, add-one, arith, length-append}
 use Rattle.lanes.specs.Grid.{Grid, Turn, of, release, can, did, turn, turns, steps, weight}
 use Rattle.lanes.specs.Promise.{Apart}
 use Rattle.lanes.proofs.Turns.{turn-did, turns-append, steps-append, steps-did}
@@ -11,7 +11,7 @@ use Rattle.machine.proofs.Passing.{turn-can}
 pub row-length : (g start mask i : ℕ) → length (row_turns g start mask i) ≡ lanes_in mask i
 unfolding row_turns lanes_in
 row-length g start mask zero = refl
-row-length g start mask (suc i) = length_append (row_turns g start mask i) _ ∙ (ap (λ (k : ℕ). k + length (cond (on mask i) (of g (start + i) ∷ []) [])) (row-length g start mask i) ∙ ap (λ (k : ℕ). lanes_in mask i + k) (by (on mask i)))
+row-length g start mask (suc i) = length-append (row_turns g start mask i) _ ∙ (ap (λ (k : ℕ). k + length (cond (on mask i) (of g (start + i) ∷ []) [])) (row-length g start mask i) ∙ ap (λ (k : ℕ). lanes_in mask i + k) (by (on mask i)))
   where
     by : (b : Bool) → length (cond b (of g (start + i) ∷ []) []) ≡ cond b 1 0
     by true = refl

@@ -1,6 +1,6 @@
 -- Turns that are written down: what stands at a byte is one thing at most.
 use Rattle.std.proofs.Common.{◌≡◌, ℕ, ◌+◌, ◌-◌, ◌<◌, ◌≤◌, min, Bool, true, false, not, eqb, ◌⊎◌, List, [], ◌∷◌, ◌++◌, length, get_or, take, drop, Some, None, Ok, Err, codes, Option, Result, sym, refl, ap, ◌∙◌, subst, inl, inr, arith, lit≤, MatchOption}
-use Rattle.std.proofs.lemmas.List.{drop-drop, length-drop, length_append}
+use Rattle.std.proofs.lemmas.List.{drop-drop, length-drop, length-append}
 use Rattle.grammar.specs.declared.refusals.Refusal.{Refusal}
 use Rattle.grammar.specs.Spelling.{digit, each_byte, decimal, IsNumber}
 use Rattle.grammar.specs.Runs.{run_of}
@@ -133,7 +133,7 @@ no-turn t i f g (Release a) n (j, q, h) = g j q
 bytes-within : (t w : List ℕ) (i j : ℕ) → 1 ≤ length w → BytesHere t w i j → (i < j) × (j ≤ length t)
 bytes-within t w i j h (p, q) =
     let e = ap length p in
-    let f : length t - i ≡ length w + (length t - j) = rw (length-drop, length_append, length-drop) at e in (omega arith, omega arith)
+    let f : length t - i ≡ length w + (length t - j) = rw (length-drop, length-append, length-drop) at e in (omega arith, omega arith)
 
 digits-forward : (t : List ℕ) (i v j : ℕ) → DigitsHere t i v j → i ≤ j
 digits-forward t i v j d = omega (arith, d.behind)

@@ -1,6 +1,6 @@
 -- The lines that are read spell a body.
 use Rattle.std.proofs.Common.{◌≡◌, ℕ, zero, suc, ◌+◌, ◌-◌, ◌<◌, ◌≤◌, max, Bool, true, false, cond, ◌&&◌, eqb, leb, ◌≢◌, ◌⊎◌, List, [], ◌∷◌, ◌++◌, length, get_or, drop, Some, None, Ok, Err, codes, Option, Result, sym, refl, ap, ◌∙◌, subst, inl, inr, arith}
-use Rattle.std.proofs.lemmas.List.{append_assoc, length_append}
+use Rattle.std.proofs.lemmas.List.{append_assoc, length-append}
 use Rattle.std.proofs.lemmas.Bool.{leb-true, eqb-false, eqb-true, and_left, cases_eq, eq-eqb}
 use Rattle.lanes.specs.Syntax.{Expr, Body, end, put, read_shared, write_shared, read_all, write_all, barrier, when, while}
 use Rattle.lanes.specs.Told.{ExprFits, BodyFits}
@@ -82,7 +82,7 @@ module _ (find : List ℕ → Option ℕ) (text : List ℕ) (N : ℕ → List �
 
   rest_is : (i n : ℕ) (w z : List ℕ) → drop i text ≡ w ++ (10 ∷ z) → n ≡ i + (length w + 1) → drop i text ≡ w ++ (10 ∷ drop n text)
   rest_is i n w z e q =
-      let p : drop (i + (length w + 1)) text ≡ z = ap (λ m. drop m text) (omega (arith, length_append w (10 ∷ []))) ∙ past text i (w ++ (10 ∷ [])) z (e ∙ sym (append_assoc w (10 ∷ []) z)) in
+      let p : drop (i + (length w + 1)) text ≡ z = ap (λ m. drop m text) (omega (arith, length-append w (10 ∷ []))) ∙ past text i (w ++ (10 ∷ [])) z (e ∙ sym (append_assoc w (10 ∷ []) z)) in
       e ∙ ap (λ t. w ++ (10 ∷ t)) (sym p ∙ ap (λ m. drop m text) (sym q))
 
   two_parts : (a c u : List ℕ) (z : List ℕ) → a ++ (c ++ (u ++ z)) ≡ (a ++ (c ++ u)) ++ z
@@ -92,7 +92,7 @@ module _ (find : List ℕ → Option ℕ) (text : List ℕ) (N : ℕ → List �
   free_two a c u p q r = omega (arith, lines-append a (c ++ u), lines-append c u, p, q, r)
 
   long_two : (a c u : List ℕ) → length (a ++ (c ++ u)) ≡ length a + (length c + length u)
-  long_two a c u = omega (arith, length_append a (c ++ u), length_append c u)
+  long_two a c u = omega (arith, length-append a (c ++ u), length-append c u)
 
   lit_free : lines_in (codes " = ") ≡ 0
   unfolding lines_in
@@ -150,7 +150,7 @@ module _ (find : List ℕ → Option ℕ) (text : List ℕ) (N : ℕ → List �
       → drop i text ≡ c ++ (u ++ (codes " = " ++ (w ++ (10 ∷ z)))) → n ≡ i + (length c + (length u + (3 + (length w + 1)))) → n ≤ i + 1025 → Plainly i n
   written mk c i n u w z lc s t sp ft fl mo e q h =
       let x : (y : List ℕ) → c ++ (u ++ (codes " = " ++ (w ++ y))) ≡ (c ++ (u ++ (codes " = " ++ w))) ++ y = λ y. ap (λ m. c ++ m) (two_parts u (codes " = ") w y) ∙ sym (append_assoc c (u ++ (codes " = " ++ w)) y) in
-      let len : length (c ++ (u ++ (codes " = " ++ w))) ≡ length c + (length u + (3 + length w)) = omega (arith, length_append c (u ++ (codes " = " ++ w)), long_two u (codes " = ") w) in
+      let len : length (c ++ (u ++ (codes " = " ++ w))) ≡ length c + (length u + (3 + length w)) = omega (arith, length-append c (u ++ (codes " = " ++ w)), long_two u (codes " = ") w) in
       record {
         make = mk s.0 t.0;
         bytes = c ++ (u ++ (codes " = " ++ w));
@@ -165,7 +165,7 @@ module _ (find : List ℕ → Option ℕ) (text : List ℕ) (N : ℕ → List �
 
   opened : (c : List ℕ) (i n : ℕ) (u z : List ℕ) → lines_in c ≡ 0 → SomeExpr N o text u → drop i text ≡ c ++ (u ++ (10 ∷ z)) → n ≡ i + (length c + (length u + 1)) → n ≤ i + 1025 → Opened c i n
   opened c i n u z lc s e q h =
-      let len = length_append c u in
+      let len = length-append c u in
       record {
         expr = s.0;
         bytes = u;

@@ -1,6 +1,6 @@
 -- A text that is refused for its shape can go on up to there.
 use Rattle.std.proofs.Common.{◌≡◌, ℕ, zero, suc, ◌+◌, ◌-◌, ◌<◌, ◌≤◌, Bool, true, false, cond, eqb, ltb, leb, ◌≢◌, ◌⊎◌, List, [], ◌∷◌, ◌++◌, length, get_or, take, drop, Some, None, Ok, Err, codes, Option, Result, sym, refl, ap, ◌∙◌, inl, inr, arith}
-use Rattle.std.proofs.lemmas.List.{append_assoc, append-nil, length_append, length_push, length-drop, take_at, get_or_past}
+use Rattle.std.proofs.lemmas.List.{append_assoc, append-nil, length-append, length_push, length-drop, take_at, get_or_past}
 use Rattle.std.proofs.lemmas.Bool.{cases_Bool, cases_lt, leb-true, eqb-true, both_ways}
 use Rattle.lanes.specs.Syntax.{Program, Body, end}
 use Rattle.grammar.specs.Spelling.{letter, digit, word_byte, each_byte, decimal, one_of, IsName, IsNumber, SpellsBody, OwnLine, CellsLine, Spelled, AnyName, Viable}
@@ -165,11 +165,11 @@ module _ (text : List ℕ) where
   viable ns own i p l names e b f =
       let u : List ℕ = f.upto in
       let all : text ≡ (own ++ u) ++ drop p text = e ∙ ap (λ m. own ++ m) f.here ∙ sym (append_assoc own u (drop p text)) in
-      let n : length own ≡ i = omega (arith, ap length e, length_append own (drop i text), length-drop i text) in
-      let m : length (own ++ u) ≡ p = omega (arith, length_append own u, n, f.end_is) in
+      let n : length own ≡ i = omega (arith, ap length e, length-append own (drop i text), length-drop i text) in
+      let m : length (own ++ u) ≡ p = omega (arith, length-append own u, n, f.end_is) in
       let q : take p text ≡ own ++ u = ap (λ t. take p t) all ∙ take_at (own ++ u) (drop p text) p m in
       record {
-        within = omega (arith, f.end_is, ap length f.here, length_append u (drop p text), length-drop i text, length-drop p text, b);
+        within = omega (arith, f.end_is, ap length f.here, length-append u (drop p text), length-drop i text, length-drop p text, b);
         before = record {
           rest = f.more;
           program = record { body = f.is.body; owns = length ns; shared = f.is.shared };
@@ -197,7 +197,7 @@ module _ (text : List ℕ) where
       let all : text ≡ (codes "own" ++ u) ++ drop p text = b ∙ ap (λ m. codes "own" ++ m) f.here in
       let q : take p text ≡ codes "own" ++ u = ap (λ t. take p t) all ∙ take_at (codes "own" ++ u) (drop p text) p (omega (arith, f.end_is)) in
       record {
-        within = omega (arith, f.end_is, ap length all, length_append u (drop p text), length-drop p text);
+        within = omega (arith, f.end_is, ap length all, length-append u (drop p text), length-drop p text);
         before = record {
           rest = f.more;
           program = record { body = end; owns = length ns; shared = 0 };
@@ -366,7 +366,7 @@ module _ (text : List ℕ) where
 
   got-cells : (i : ℕ) (h : Head) → Celled text i h → i ≤ length text → h.next ≤ length text → Got text (λ c. (s : ℕ) × CellsLine s c) i h.next
   got-cells i h c l m =
-      record { bytes = c.part; is = (h.many, c.line); here = c.here; end_is = omega (arith, ap length c.here, length_append c.part (drop h.next text), length-drop i text, length-drop h.next text) }
+      record { bytes = c.part; is = (h.many, c.line); here = c.here; end_is = omega (arith, ap length c.here, length-append c.part (drop h.next text), length-drop i text, length-drop h.next text) }
 
   whole_front : (o : ℕ) (find : List ℕ → Option ℕ) (finds : (k : ℕ) (u : List ℕ) → find u ≡ Some k → AnyName k u × (k < o)) (i left p : ℕ) (E : Ending) (s : Stop) → s.ending ≡ E → Gone text find o finds i false left s → whole_as E s ≡ Err (Shape p) → Front text Bodied i p
   whole_front o find finds i left p Text s q g e = let z : ◌≡◌ {A = ℕ} 0 1 = cc in absurd (omega arith)

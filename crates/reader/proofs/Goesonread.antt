@@ -1,6 +1,6 @@
 -- What is refused with number 1 is refused at the first byte at which no text goes on so.
 use Rattle.std.proofs.Common.{◌≡◌, ℕ, ◌+◌, ◌<◌, ◌≤◌, List, ◌++◌, length, get_or, take, Ok, Err, Result, sym, ◌∙◌, arith}
-use Rattle.std.proofs.lemmas.List.{get_or_append_left, get_or-take, length-take-le, length_append}
+use Rattle.std.proofs.lemmas.List.{get_or_append_left, get_or-take, length-take-le, length-append}
 use Rattle.grammar.specs.Spelling.{Viable}
 use Rattle.grammar.specs.declared.refusals.Refusal.{Refusal}
 use Rattle.grammar.specs.declared.refusals.Refusal.TheVariants.{Shape as No-text}
@@ -19,7 +19,7 @@ same_bytes text z p h =
     record {
       bytes = λ k l. sym (get_or_append_left (take (p + 1) text) z 0 k (omega arith) ∙ get_or-take (p + 1) text k 0 (omega arith));
       first = h;
-      second = omega (arith, length_append (take (p + 1) text) z);
+      second = omega (arith, length-append (take (p + 1) text) z);
     }
 
 pub goes_on : (text : List ℕ) (r : Result Shape Refusal) → r ≡ read_at text → (p : ℕ) → r ≡ Err (No-text p) → Goes_on text p

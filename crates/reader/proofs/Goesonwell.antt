@@ -1,6 +1,6 @@
 -- Lines that have their shape are never refused for it, and are read to where they end.
 use Rattle.std.proofs.Common.{◌≡◌, ℕ, zero, suc, ◌+◌, ◌-◌, ◌<◌, ◌≤◌, Bool, true, false, cond, ◌&&◌, eqb, leb, ◌≢◌, ◌⊎◌, List, [], ◌∷◌, ◌++◌, length, drop, Ok, Err, codes, Option, Result, sym, refl, ap, ◌∙◌, inl, inr, arith}
-use Rattle.std.proofs.lemmas.List.{append_assoc, length_append, length-drop}
+use Rattle.std.proofs.lemmas.List.{append_assoc, length-append, length-drop}
 use Rattle.std.proofs.lemmas.Bool.{le-leb, lt-leb, eqb-false, cases_Bool}
 use Rattle.lanes.specs.Syntax.{Expr, Body, end, put, read_shared, write_shared, read_all, write_all, barrier, when, while}
 use Rattle.grammar.specs.Spelling.{IsName, SpellsExpr, SpellsBody, AnyName}
@@ -100,7 +100,7 @@ module _ (find : List ℕ → Option ℕ) (text : List ℕ) where
   plain_reads x b u v h g r E z w zero deep left i some q e l = absurd (omega arith)
   plain_reads x b u v h g r E z w (suc f) deep left i some q e l =
       let p = g i z e in
-      block_line lines.alone p.0 f deep left i some (Stopped E w left x some) (u ++ z) e (omega (arith, length_append u z)) p.1
+      block_line lines.alone p.0 f deep left i some (Stopped E w left x some) (u ++ z) e (omega (arith, length-append u z)) p.1
       (λ m. good-weak (block_at find text f deep (left - 1) p.0 true) (Stopped E w (left - 1) b true) (Stopped E w left x some) (λ s. stop-weak E w (left - 1) left b x some s (omega arith))
       (r E z w f deep (left - 1) p.0 true q p.2 (omega arith)))
 
@@ -175,7 +175,7 @@ module _ (find : List ℕ → Option ℕ) (text : List ℕ) where
   unfolding SpellsBody
   body_reads end t s = end_reads t s
   body_reads (put k e b) t (a, u, v, h, s, r, q) =
-      plain_reads (put k e b) b t v (omega (arith, ap length q, length_append a (codes " = " ++ (u ++ (10 ∷ v))), h.some))
+      plain_reads (put k e b) b t v (omega (arith, ap length q, length-append a (codes " = " ++ (u ++ (10 ∷ v))), h.some))
       (λ i z d. let x : drop i text ≡ a ++ (codes " = " ++ (u ++ (10 ∷ (v ++ z)))) = d ∙ ap (λ m. m ++ z) q ∙ four a (codes " = ") u v z in (
         (((i + length a) + 3) + length u) + 1,
         put-line-right find text i a u (v ++ z) h (e, s) x,
@@ -183,7 +183,7 @@ module _ (find : List ℕ → Option ℕ) (text : List ℕ) where
       ))
       (body_reads b v r)
   body_reads (read_shared k e b) t (a, u, v, h, s, r, q) =
-      plain_reads (read_shared k e b) b t v (omega (arith, ap length q, length_append a (codes " = cell " ++ (u ++ (10 ∷ v))), h.some))
+      plain_reads (read_shared k e b) b t v (omega (arith, ap length q, length-append a (codes " = cell " ++ (u ++ (10 ∷ v))), h.some))
       (λ i z d. let x : drop i text ≡ a ++ (codes " = cell " ++ (u ++ (10 ∷ (v ++ z)))) = d ∙ ap (λ m. m ++ z) q ∙ four a (codes " = cell ") u v z in (
         (((((i + length a) + 3) + 4) + 1) + length u) + 1,
         read-cell-right find text i a u (v ++ z) h (e, s) x,
@@ -191,7 +191,7 @@ module _ (find : List ℕ → Option ℕ) (text : List ℕ) where
       ))
       (body_reads b v r)
   body_reads (read_all k e b) t (a, u, v, h, s, r, q) =
-      plain_reads (read_all k e b) b t v (omega (arith, ap length q, length_append a (codes " = field " ++ (u ++ (10 ∷ v))), h.some))
+      plain_reads (read_all k e b) b t v (omega (arith, ap length q, length-append a (codes " = field " ++ (u ++ (10 ∷ v))), h.some))
       (λ i z d. let x : drop i text ≡ a ++ (codes " = field " ++ (u ++ (10 ∷ (v ++ z)))) = d ∙ ap (λ m. m ++ z) q ∙ four a (codes " = field ") u v z in (
         (((((i + length a) + 3) + 5) + 1) + length u) + 1,
         read-field-right find text i a u (v ++ z) h (e, s) x,

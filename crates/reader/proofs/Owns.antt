@@ -1,6 +1,6 @@
 -- The names that are read are names, no two of them the same, and they stand in the text's first line.
 use Rattle.std.proofs.Common.{◌≡◌, ℕ, zero, suc, ◌+◌, ◌-◌, ◌<◌, ◌≤◌, Bool, true, false, cond, ◌||◌, eqb, leb, ◌≢◌, ◌⊎◌, List, [], ◌∷◌, ◌++◌, length, get_or, take, drop, Some, None, Ok, Err, codes, Option, Result, sym, refl, ap, ◌∙◌, subst, inl, inr, add-zero, arith}
-use Rattle.std.proofs.lemmas.List.{append_assoc, length_append, get_or_append_left, get_or_push, length_push, drop-drop, get_or-drop, get_or-take, take-append-drop}
+use Rattle.std.proofs.lemmas.List.{append_assoc, length-append, get_or_append_left, get_or_push, length_push, drop-drop, get_or-drop, get_or-take, take-append-drop}
 use Rattle.std.proofs.lemmas.Bool.{both_ways, cases_lt, eqb-true, eq-eqb, ne_eqb, leb-false, or_parts, or_from}
 use Rattle.grammar.specs.Spelling.{letter, word_byte, each_byte, same_bytes, one_of, keywords, IsName}
 use Rattle.grammar.specs.Stands.{Apart}

@@ -1,6 +1,6 @@
 -- A text that is read is a program within the limits.
 use Rattle.std.proofs.Common.{◌≡◌, ℕ, zero, suc, ◌+◌, ◌-◌, ◌*◌, ◌<◌, ◌≤◌, Bool, true, false, cond, eqb, ltb, leb, ◌≢◌, ◌⊎◌, List, [], ◌∷◌, ◌++◌, length, get_or, take, drop, Some, None, Ok, Err, codes, Option, Result, sym, refl, ap, ◌∙◌, subst, inl, inr, arith}
-use Rattle.std.proofs.lemmas.List.{append_assoc, append-nil, length_append, take-append-drop, drop_all, length-drop, drop-drop}
+use Rattle.std.proofs.lemmas.List.{append_assoc, append-nil, length-append, take-append-drop, drop_all, length-drop, drop-drop}
 use Rattle.std.proofs.lemmas.Bool.{lt-ltb, le-ltb, ltb-false, cases_lt}
 use Rattle.lanes.specs.Syntax.{Program, Body}
 use Rattle.grammar.specs.Spelling.{digit, word_byte, each_byte, IsName, IsNumber, OwnLine, CellsLine, Named, Spelled, SpellsBody}
@@ -39,7 +39,7 @@ spaced-few : (ns : List (List ℕ)) → ((k : ℕ) → k < length ns → IsName 
 spaced-few [] h = omega arith
 spaced-few (n ∷ ns) h =
     let p : IsName n = h 0 (omega arith) in
-    omega (arith, length_append n (spaced ns), p.short, spaced-few ns (λ k l. h (suc k) (omega arith)))
+    omega (arith, length-append n (spaced ns), p.short, spaced-few ns (λ k l. h (suc k) (omega arith)))
 
 pub record Owned (text : List ℕ) (f : Found) : Type 0 where
   pub names_in : NamesIn f.names text
@@ -61,8 +61,8 @@ owned-some text f b l =
     let ne : ns ≢ [] = λ q. omega (arith, l.some, ap length q) in
     let e : text ≡ part ++ drop f.next text = b ∙ ap (λ t. codes "own" ++ t) (l.here ∙ sym (append_assoc (spaced ns) (10 ∷ []) (drop f.next text))) in
     let e2 : text ≡ (codes "own" ++ spaced ns) ++ (10 ∷ drop f.next text) = b ∙ ap (λ t. codes "own" ++ t) l.here in
-    let o = one_line text 0 f.next (codes "own" ++ spaced ns) (omega (arith, lines-append (codes "own") (spaced ns), own-free, spaced-free ns l.names)) (omega (arith, length_append (codes "own") (spaced ns), spaced-few ns l.names, l.few)) e2 in
-    let pos : 0 < f.next = elim (cases_lt 0 f.next) [ inl q ↦ q | inr q ↦ absurd (let z : f.next ≡ 0 = omega arith in omega (arith, ap length e2, length_append (codes "own" ++ spaced ns) (10 ∷ drop f.next text), ap (λ m. length (drop m text)) z)) ] in
+    let o = one_line text 0 f.next (codes "own" ++ spaced ns) (omega (arith, lines-append (codes "own") (spaced ns), own-free, spaced-free ns l.names)) (omega (arith, length-append (codes "own") (spaced ns), spaced-few ns l.names, l.few)) e2 in
+    let pos : 0 < f.next = elim (cases_lt 0 f.next) [ inl q ↦ q | inr q ↦ absurd (let z : f.next ≡ 0 = omega arith in omega (arith, ap length e2, length-append (codes "own" ++ spaced ns) (10 ∷ drop f.next text), ap (λ m. length (drop m text)) z)) ] in
     record {
       names_in = record { line = part; rest = drop f.next text; whole = e; own_line = inr (ne, refl); names = l.names; few = l.few; missing = λ q _. ne q };
       distinct = l.distinct;
@@ -124,7 +124,7 @@ celled text i j n b d m s x =
     let len : length u ≡ run_of digit (drop j text) = run_length digit text j in
     let r : 1 ≤ run_of digit (drop j text) = run-some digit text j refl d in
     let e : drop i text ≡ codes "cells " ++ (u ++ (10 ∷ drop n text)) = p.0 ∙ ap (λ t. codes "cells " ++ t) (run-splits digit text j ∙ ap (λ t. u ++ t) q.0) in
-    let o = one_line text i n (codes "cells " ++ u) (omega (arith, lines-append (codes "cells ") u, cells_free, digit-lines u (run-each digit (drop j text)))) (omega (arith, length_append (codes "cells ") u, p.1))
+    let o = one_line text i n (codes "cells " ++ u) (omega (arith, lines-append (codes "cells ") u, cells_free, digit-lines u (run-each digit (drop j text)))) (omega (arith, length-append (codes "cells ") u, p.1))
     (e ∙ sym (append_assoc (codes "cells ") u (10 ∷ drop n text))) in
     record {
       part = codes "cells " ++ (u ++ (10 ∷ []));

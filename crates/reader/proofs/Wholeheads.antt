@@ -1,6 +1,6 @@
 -- A text that spells a program within the limits is read.
 use Rattle.std.proofs.Common.{◌≡◌, ℕ, zero, suc, ◌+◌, ◌-◌, ◌<◌, ◌≤◌, Bool, true, false, cond, ◌||◌, eqb, ltb, leb, ◌≢◌, ◌⊎◌, List, [], ◌∷◌, ◌++◌, length, get_or, take, drop, Some, None, Ok, Err, codes, Option, Result, sym, refl, ap, ◌∙◌, inl, inr, arith}
-use Rattle.std.proofs.lemmas.List.{append_assoc, append-nil, length_append, length-drop, get_or_append_left}
+use Rattle.std.proofs.lemmas.List.{append_assoc, append-nil, length-append, length-drop, get_or_append_left}
 use Rattle.std.proofs.lemmas.Bool.{cases_Bool, lt-leb, le-ltb, eq-eqb, ne_eqb}
 use Rattle.lanes.specs.Syntax.{Program, Body, end, put, read_shared, write_shared, read_all, write_all, barrier, when, while}
 use Rattle.grammar.specs.Spelling.{letter, digit, word_byte, each_byte, same_bytes, one_of, decimal, IsName, IsNumber, SpellsBody, OwnLine, CellsLine, Spelled, Named}
@@ -47,7 +47,7 @@ fresh seen u ns d =
       | inr p ↦ p
       | inl p ↦
           let r = seen_at seen u p in
-          let len = length_append seen (u ∷ ns) in
+          let len = length-append seen (u ∷ ns) in
           let q : r.0 ≡ length seen = d r.0 (length seen) (omega (arith, len, r.1)) (omega (arith, len)) (get_or_append_left seen (u ∷ ns) [] r.0 r.1 ∙ r.2 ∙ sym (getD-mid seen u ns)) in
           absurd (omega (arith, q, r.1))
     ]
@@ -102,7 +102,7 @@ module _ (text : List ℕ) where
       let d2 : drop ((i + 1) + length u) text ≡ spaced ns ++ (10 ∷ z) = past text (i + 1) u _ d1 in
       let nu : IsName u = h 0 (omega arith) in
       let same : (seen ++ (u ∷ [])) ++ ns ≡ seen ++ (u ∷ ns) = append_assoc seen (u ∷ []) ns in
-      let len = length_append seen (u ∷ []) in
+      let len = length-append seen (u ∷ []) in
       rw (bytes-done text i (codes " ") _ refl d0, name_done seen (i + 1) u (spaced ns ++ (10 ∷ z)) nu (fresh seen u ns di) (omega arith) d1 (apart-spaced ns z), part-here word_byte text (i + 1) u (spaced ns ++ (10 ∷ z)) nu.bytes (apart-spaced ns z) d1, sym same)
       (after_done ns n (seen ++ (u ∷ [])) ((i + 1) + length u) z d2
       (λ some. names_done ns n (seen ++ (u ∷ [])) ((i + 1) + length u) z some (λ k l. h (suc k) (omega arith)) (rw same di) (omega (arith, len)) (omega arith) d2))
@@ -133,7 +133,7 @@ module _ (text : List ℕ) where
       let g : digit (get_or text (i + 6) 0) ≡ true = ap digit (byte_of text (i + 6) u (10 ∷ t) n.some d1) ∙ byte_at digit u 0 n.bytes n.some in
       let v : number_part text (i + 6) ≡ s = ap (λ k. decimal 0 k) (part-here digit text (i + 6) u (10 ∷ t) n.bytes refl d1) ∙ n.value in
       let x = short_back (codes "cells " ++ u) t 0 (omega (arith, lines-append (codes "cells ") u, cells_free, digit-lines u n.bytes)) (omega arith) (ap (λ k. lines_within 1024 0 k) (append_assoc (codes "cells ") u (10 ∷ t) ∙ sym d0) ∙ w) in
-      let y : ((i + 6) + length u) - i ≤ 1024 = omega (arith, x.0, length_append (codes "cells ") u) in
+      let y : ((i + 6) + length u) - i ≤ 1024 = omega (arith, x.0, length-append (codes "cells ") u) in
       rw (
         key_is i (codes "cells") _ (Some kw.Cells) refl refl d0 (key-written kw.Cells),
         bytes-done text i (codes "cells ") _ refl d0,

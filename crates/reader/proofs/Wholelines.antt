@@ -1,6 +1,6 @@
 -- Lines that spell a body within the limits are read, to where they end.
 use Rattle.std.proofs.Common.{◌≡◌, ℕ, zero, suc, ◌+◌, ◌-◌, ◌<◌, ◌≤◌, max, Bool, true, false, cond, ◌&&◌, eqb, ltb, leb, ◌≢◌, ◌⊎◌, List, [], ◌∷◌, ◌++◌, length, drop, Some, None, Ok, Err, codes, Option, Result, sym, refl, ap, ◌∙◌, inl, inr, arith}
-use Rattle.std.proofs.lemmas.List.{append_assoc, length_append, length-drop}
+use Rattle.std.proofs.lemmas.List.{append_assoc, length-append, length-drop}
 use Rattle.std.proofs.lemmas.Bool.{le-leb, lt-leb, ne_eqb, and_parts, ltb-true, cases_Bool}
 use Rattle.lanes.specs.Syntax.{Expr, Body, end, put, read_shared, write_shared, read_all, write_all, barrier, when, while}
 use Rattle.lanes.specs.Told.{ExprFits, BodyFits}
@@ -145,7 +145,7 @@ module _ (find : List ℕ → Option ℕ) (text : List ℕ) (N : ℕ → List �
       rw (ne_eqb left 0 (λ q. omega (arith, p.0, q)), a) (line-done find text N o named found i l n s.here p.1)
 
   not_past : (i : ℕ) (w v : List ℕ) → drop i text ≡ w ++ (10 ∷ v) → leb (length text) i ≡ false
-  not_past i w v e = lt-leb (length text) i (omega (arith, ap length e, length_append w (10 ∷ v), length-drop i text))
+  not_past i w v e = lt-leb (length text) i (omega (arith, ap length e, length-append w (10 ∷ v), length-drop i text))
 
   at_past : (i : ℕ) → drop i text ≡ [] → leb (length text) i ≡ true
   at_past i e = le-leb (length text) i (omega (arith, ap length e, length-drop i text))
@@ -222,7 +222,7 @@ module _ (find : List ℕ → Option ℕ) (text : List ℕ) (N : ℕ → List �
 
   head_line : (mk : ℕ → Line) (c : List ℕ) (i n : ℕ) (u v : List ℕ) → LineHere N o text i (mk (i + length c)) n → lines_in c ≡ 0 → lines_in u ≡ 0 → drop i text ≡ c ++ (u ++ (10 ∷ v)) → n ≡ (i + length c) + (length u + 1) → StandsLine i (mk (i + length c)) n v
   head_line mk c i n u v h lc lu e q =
-      record { here = h; word = c ++ u; free = omega (arith, lines-append c u, lc, lu); split = e ∙ sym (append_assoc c u (10 ∷ v)); size = omega (arith, length_append c u) }
+      record { here = h; word = c ++ u; free = omega (arith, lines-append c u, lc, lu); split = e ∙ sym (append_assoc c u (10 ∷ v)); size = omega (arith, length-append c u) }
 
   if_line : (e : Expr) (i : ℕ) (u v : List ℕ) → SpellsExpr N e u → ExprFits o e → drop i text ≡ codes "if " ++ (u ++ (10 ∷ v)) → StandsLine i (line.If (i + 3)) ((i + 3) + (length u + 1)) v
   unfolding LineHere
@@ -325,7 +325,7 @@ module _ (find : List ℕ → Option ℕ) (text : List ℕ) (N : ℕ → List �
           word = a ++ (c ++ u);
           free = omega (arith, lines-append a (c ++ u), lines-append c u, word-lines a (named k a nk).bytes, lc, lu);
           split = d ∙ sym (append_assoc a (c ++ u) (10 ∷ v) ∙ ap (λ m. a ++ m) (append_assoc c u (10 ∷ v)));
-          size = omega (arith, length_append a (c ++ u), length_append c u, q);
+          size = omega (arith, length-append a (c ++ u), length-append c u, q);
         };
       }
 
@@ -357,7 +357,7 @@ module _ (find : List ℕ → Option ℕ) (text : List ℕ) (N : ℕ → List �
           word = c ++ (u ++ (codes " = " ++ y));
           free = omega (arith, lines-append c (u ++ (codes " = " ++ y)), lines-append u (codes " = " ++ y), lines-append (codes " = ") y, lit_free, lc, lu, ly);
           split = d ∙ sym (append_assoc c (u ++ (codes " = " ++ y)) (10 ∷ v) ∙ ap (λ m. c ++ m) (append_assoc u (codes " = " ++ y) (10 ∷ v)));
-          size = omega (arith, length_append c (u ++ (codes " = " ++ y)), length_append u (codes " = " ++ y), length_append (codes " = ") y, q);
+          size = omega (arith, length-append c (u ++ (codes " = " ++ y)), length-append u (codes " = " ++ y), length-append (codes " = ") y, q);
         };
       }
 

@@ -1,6 +1,6 @@
 -- Two expressions in a bracket: where they stand, and what the bracket is worth.
 use Rattle.std.proofs.Common.{◌≡◌, ℕ, zero, suc, ◌+◌, ◌-◌, ◌<◌, ◌≤◌, ◌≢◌, List, [], ◌∷◌, ◌++◌, length, get_or, take, drop, sym, refl, ap, ◌∙◌, subst, inl, inr, append_assoc, add_assoc, arith}
-use Rattle.std.proofs.lemmas.List.{length_append, drop-drop, drop_at}
+use Rattle.std.proofs.lemmas.List.{length-append, drop-drop, drop_at}
 use Rattle.std.proofs.lemmas.Bool.Decides.{nat_tests}
 use Rattle.lanes.specs.Syntax.{Expr}
 use Rattle.lanes.specs.Step.{value}
@@ -48,7 +48,7 @@ module _ (ns : List (List ℕ)) (text : List ℕ) (n : NamesIn ns text) (i : ℕ
   pub long : length s.spelling ≡ length h.u + length h.v + 5
   long =
       ap length h.whole
-      ∙ ap suc (length_append h.u (32 ∷ byte_of h.op ∷ 32 ∷ (h.v ++ (41 ∷ []))) ∙ ap (λ m. length h.u + suc (suc (suc m))) (length_append h.v (41 ∷ [])))
+      ∙ ap suc (length-append h.u (32 ∷ byte_of h.op ∷ 32 ∷ (h.v ++ (41 ∷ []))) ∙ ap (λ m. length h.u + suc (suc (suc m))) (length-append h.v (41 ∷ [])))
       ∙ omega arith
 
   module _ (mid : ℕ) (is : mid ≡ (i + 1) + length h.u) where

@@ -1,7 +1,7 @@
 -- Where the parts of an expression stand, and what it is worth by theirs.
 use Rattle.std.proofs.Common.{◌≡◌, ℕ, zero, suc, ◌+◌, ◌-◌, ◌<◌, ◌≤◌, Bool, true, false, ◌≢◌, List, [], ◌∷◌, ◌++◌, length, get_or, take, drop, Some, None, sym, refl, ap, ◌∙◌, subst, inl, inr, append_assoc, add-zero, arith}
 use Rattle.std.specs.List.{between}
-use Rattle.std.proofs.lemmas.List.{length_append, length-drop, drop-drop, drop_at, take_at}
+use Rattle.std.proofs.lemmas.List.{length-append, length-drop, drop-drop, drop_at, take_at}
 use Rattle.std.proofs.lemmas.Bool.{both_ways, cases_Bool}
 use Rattle.lanes.specs.Syntax.{Expr}
 use Rattle.lanes.specs.Step.{value}
@@ -25,7 +25,7 @@ module _ (ns : List (List ℕ)) (text : List ℕ) (n : NamesIn ns text) (i : ℕ
   first_byte h = ap (λ m. get_or text m 0) (sym (add-zero i)) ∙ at_part text s.spelling s.behind i 0 s.here h
 
   room : 1 ≤ length s.spelling → i + length s.spelling ≤ length text
-  room h = omega (arith, h, length-drop i text, ap length s.here, length_append s.spelling s.behind)
+  room h = omega (arith, h, length-drop i text, ap length s.here, length-append s.spelling s.behind)
 
   opens : simple e ≡ false → get_or text i 0 ≡ 40
   opens f =

@@ -1,7 +1,7 @@
 -- A text that is taken, written anew, is taken; and every program in bounds has a text.
 use Rattle.std.proofs.Common.{◌≡◌, ℕ, zero, suc, ◌+◌, ◌-◌, ◌*◌, ◌^◌, ◌<◌, ◌≤◌, Bool, true, false, cond, not, ◌&&◌, ◌||◌, eqb, leb, ◌≢◌, ◌⊎◌, List, [], ◌∷◌, ◌++◌, length, get_or, codes, decimal as digits_of, sym, refl, ap, ◌∙◌, inl, inr, suc-le-suc, zero-le, arith}
 use Rattle.std.specs.List.{flat_map}
-use Rattle.std.proofs.lemmas.List.{append_assoc, append-nil, length_append}
+use Rattle.std.proofs.lemmas.List.{append_assoc, append-nil, length-append}
 use Rattle.std.proofs.lemmas.Fmt.{length-decimal-le}
 use Rattle.std.proofs.lemmas.Str.Parse.{digits_value_short}
 use Rattle.std.proofs.lemmas.Bool.{cases_Bool, eqb-true, and_parts}
@@ -35,7 +35,7 @@ pub shorter-both : (u v x y : List ℕ) → Shorter u v → Shorter x y → Shor
 shorter-both u v x y p q = record {
   flat = each_append plain u x p.flat q.flat;
   flat_too = each_append plain v y p.flat_too q.flat_too;
-  no_longer = rw (length_append u x, length_append v y) (omega (arith, p.no_longer, q.no_longer));
+  no_longer = rw (length-append u x, length-append v y) (omega (arith, p.no_longer, q.no_longer));
 }
 
 shorter-infix : (t u v x y : List ℕ) (b : ℕ) → plain b ≡ true → Shorter u v → Shorter x y → t ≡ infix_of u b x → Shorter t (infix_of v b y)

@@ -1,7 +1,7 @@
 -- The copy of a text is what its program is written as.
 use Rattle.std.proofs.Common.{◌≡◌, ℕ, zero, suc, ◌+◌, ◌-◌, ◌*◌, ◌<◌, ◌≤◌, Bool, true, false, cond, not, ◌&&◌, ◌||◌, eqb, leb, ◌≢◌, ◌⊎◌, List, [], ◌∷◌, ◌++◌, length, get_or, drop, codes, decimal as digits_of, sym, refl, ap, ◌∙◌, inl, inr, suc-le-suc, zero-le, not-suc-le-zero, arith}
 use Rattle.std.specs.List.{flat_map}
-use Rattle.std.proofs.lemmas.List.{append_assoc, append-nil, length_append, get_or-append-add, get_or_at}
+use Rattle.std.proofs.lemmas.List.{append_assoc, append-nil, length-append, get_or-append-add, get_or_at}
 use Rattle.std.proofs.lemmas.Bool.{and_parts, and_left, cases_Bool, both_ways, eqb-true, eqb-false, le-leb}
 use Rattle.std.proofs.lemmas.Bool.Decides.{nat_tests}
 use Rattle.lanes.specs.Syntax.{Expr, Body, end, put, read_shared, write_shared, read_all, write_all, barrier, when, while, Program, ended}
@@ -276,7 +276,7 @@ cells-copied s t x h (inr (u, i, q)) o =
     whole-line u x = ap (λ (k : ℕ). copied k false (codes "cells " ++ (u ++ (10 ∷ x)))) (long u) ∙ (ap (λ (y : List ℕ). copied (length (codes "cells " ++ (u ++ (10 ∷ [])))) false (codes "cells " ++ y)) (sym (append_assoc u (10 ∷ []) x)) ∙ skipped (codes "cells " ++ (u ++ (10 ∷ []))) x false)
       where
         long : (u : List ℕ) → 7 + length u ≡ length (codes "cells " ++ (u ++ (10 ∷ [])))
-        long u = simp length_append (omega arith)
+        long u = simp length-append (omega arith)
 
 pub renewed : (ns : List (List ℕ)) (p : Program) (text : List ℕ) → p.shared ≤ 16384 → BodyFits p.owns p.body → Spelled (Named ns) ns p text → copy text ≡ written ns p
 unfolding written copy written_body copied

@@ -9,8 +9,8 @@ returns-in_default c = none_of _ (λ r. grind arith)
 pub returns-in_default-34 : goal.returns-in_default-34
 returns-in_default-34 c = none_of _ (λ r. grind arith)
 
-pub returns-in-105 : goal.returns-in-105
-returns-in-105 c = same_lists _ _ (search (rules, places)) (λ k d h. grind (arith, places))
+pub returns-in-if : goal.returns-in-if
+returns-in-if c = same_lists _ _ (search (rules, places)) (λ k d h. grind (arith, places))
 
 pub returns-in_default-2 : goal.returns-in_default-2
 returns-in_default-2 c = none_of _ (λ r. grind arith)
@@ -150,35 +150,35 @@ returns-in_default-47 c = none_of _ (λ r. grind arith)
 pub returns-in_default-48 : goal.returns-in_default-48
 returns-in_default-48 c = none_of _ (λ r. grind arith)
 
-pub returns-in-111 : goal.returns-in-111
-returns-in-111 c = same_lists _ _ (search (rules, places)) (λ k d h. grind (arith, places))
+pub returns-in-own : goal.returns-in-own
+returns-in-own c = same_lists _ _ (search (rules, places)) (λ k d h. grind (arith, places))
 
-pub returns-in-101-2 : goal.returns-in-101-2
-returns-in-101-2 c = same_lists _ _ (search (rules, places)) (λ k d h. grind (arith, places))
+pub returns-in-end : goal.returns-in-end
+returns-in-end c = same_lists _ _ (search (rules, places)) (λ k d h. grind (arith, places))
 
-pub returns-in-99-2 : goal.returns-in-99-2
-returns-in-99-2 c = same_lists _ _ (search (rules, places)) (λ k d h. grind (arith, places))
+pub returns-in-cells : goal.returns-in-cells
+returns-in-cells c = same_lists _ _ (search (rules, places)) (λ k d h. grind (arith, places))
 
-pub returns-in-101 : goal.returns-in-101
-returns-in-101 c = same_lists _ _ (search (rules, places)) (λ k d h. grind (arith, places))
+pub returns-in-else : goal.returns-in-else
+returns-in-else c = same_lists _ _ (search (rules, places)) (λ k d h. grind (arith, places))
 
-pub returns-in-108 : goal.returns-in-108
-returns-in-108 c = same_lists _ _ (search (rules, places)) (λ k d h. grind (arith, places))
+pub returns-in-lane : goal.returns-in-lane
+returns-in-lane c = same_lists _ _ (search (rules, places)) (λ k d h. grind (arith, places))
 
-pub returns-in-99 : goal.returns-in-99
-returns-in-99 c = same_lists _ _ (search (rules, places)) (λ k d h. grind (arith, places))
+pub returns-in-cell : goal.returns-in-cell
+returns-in-cell c = same_lists _ _ (search (rules, places)) (λ k d h. grind (arith, places))
 
-pub returns-in-102 : goal.returns-in-102
-returns-in-102 c = same_lists _ _ (search (rules, places)) (λ k d h. grind (arith, places))
+pub returns-in-field : goal.returns-in-field
+returns-in-field c = same_lists _ _ (search (rules, places)) (λ k d h. grind (arith, places))
 
-pub returns-in-119 : goal.returns-in-119
-returns-in-119 c = same_lists _ _ (search (rules, places)) (λ k d h. grind (arith, places))
+pub returns-in-while : goal.returns-in-while
+returns-in-while c = same_lists _ _ (search (rules, places)) (λ k d h. grind (arith, places))
 
-pub returns-in-103 : goal.returns-in-103
-returns-in-103 c = same_lists _ _ (search (rules, places)) (λ k d h. grind (arith, places))
+pub returns-in-group : goal.returns-in-group
+returns-in-group c = same_lists _ _ (search (rules, places)) (λ k d h. grind (arith, places))
 
-pub returns-in-108-2 : goal.returns-in-108-2
-returns-in-108-2 c = same_lists _ _ (search (rules, places)) (λ k d h. grind (arith, places))
+pub returns-in-lanes : goal.returns-in-lanes
+returns-in-lanes c = same_lists _ _ (search (rules, places)) (λ k d h. grind (arith, places))
 
-pub returns-in-98 : goal.returns-in-98
-returns-in-98 c = same_lists _ _ (search (rules, places)) (λ k d h. grind (arith, places))
+pub returns-in-barrier : goal.returns-in-barrier
+returns-in-barrier c = same_lists _ _ (search (rules, places)) (λ k d h. grind (arith, places))

@@ -35,18 +35,18 @@ returns-in-Group c ns n = key-group (place_in ns) c.args.text.now c.args.i c.arg
 pub returns-in-Lanes : goal.returns-in-Lanes
 returns-in-Lanes c ns n = key-lanes (place_in ns) c.args.text.now c.args.i c.args.key c.in-Lanes.is
 
-pub returns-in_err-expr : goal.returns-in_err-expr
-returns-in_err-expr c ns n =
+pub returns-in_err-expr-in-If : goal.returns-in_err-expr-in-If
+returns-in_err-expr-in-If c ns n =
     let p = err_from_is_err_and c.from_residual.result c.from_residual.ensures.1 in
-    rw (p.1, p.2) (then-err _ _ _ c.in_err-expr.ensures ∙ key-if (place_in ns) c.args.text.now c.args.i c.args.key c.in-If.is)
+    rw (p.1, p.2) (then-err _ _ _ c.in_err-expr-in-If.ensures ∙ key-if (place_in ns) c.args.text.now c.args.i c.args.key c.in-If.is)
 
-pub returns-in_err-expr-2 : goal.returns-in_err-expr-2
-returns-in_err-expr-2 c ns n =
-    let p = err_from_is_err_and c.from_residual-in_err-expr-2.result c.from_residual-in_err-expr-2.ensures.1 in
-    rw (p.1, p.2) (then-err _ _ _ c.in_err-expr-2.ensures ∙ key-while (place_in ns) c.args.text.now c.args.i c.args.key c.in-While.is)
+pub returns-in_err-expr-in-While : goal.returns-in_err-expr-in-While
+returns-in_err-expr-in-While c ns n =
+    let p = err_from_is_err_and c.from_residual-in_err-expr-in-While.result c.from_residual-in_err-expr-in-While.ensures.1 in
+    rw (p.1, p.2) (then-err _ _ _ c.in_err-expr-in-While.ensures ∙ key-while (place_in ns) c.args.text.now c.args.i c.args.key c.in-While.is)
 
-pub returns-in_ok-expr : goal.returns-in_ok-expr
-returns-in_ok-expr c ns n = c.with_expr.ensures ns n ∙ then_ok _ _ _ c.in_ok-expr.ensures ∙ key-if (place_in ns) c.args.text.now c.args.i c.args.key c.in-If.is
+pub returns-in_ok-expr-in-If : goal.returns-in_ok-expr-in-If
+returns-in_ok-expr-in-If c ns n = c.with_expr.ensures ns n ∙ then_ok _ _ _ c.in_ok-expr-in-If.ensures ∙ key-if (place_in ns) c.args.text.now c.args.i c.args.key c.in-If.is
 
-pub returns-in_ok-expr-2 : goal.returns-in_ok-expr-2
-returns-in_ok-expr-2 c ns n = c.with_expr-in-While.ensures ns n ∙ then_ok _ _ _ c.in_ok-expr-2.ensures ∙ key-while (place_in ns) c.args.text.now c.args.i c.args.key c.in-While.is
+pub returns-in_ok-expr-in-While : goal.returns-in_ok-expr-in-While
+returns-in_ok-expr-in-While c ns n = c.with_expr-in-While.ensures ns n ∙ then_ok _ _ _ c.in_ok-expr-in-While.ensures ∙ key-while (place_in ns) c.args.text.now c.args.i c.args.key c.in-While.is

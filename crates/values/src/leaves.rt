@@ -51,11 +51,11 @@ pub fn leaf_of(text: &[u8], at: usize, end: usize) -> Leaf
     ensures { LeafAt simple text.now (between at end text.now) result }
 {
     let word = &text[at..end];
-    if word == b"lane" {
+    if word == b"lane".as_slice() {
         Leaf::Lane
-    } else if word == b"group" {
+    } else if word == b"group".as_slice() {
         Leaf::Group
-    } else if word == b"lanes" {
+    } else if word == b"lanes".as_slice() {
         Leaf::Lanes
     } else {
         number_or_name(text, at, end)

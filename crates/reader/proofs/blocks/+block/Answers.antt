@@ -29,72 +29,72 @@ returns-in-Parts t c = record { fewer = omega arith; walk = λ ns f n h. block-k
 pub returns-in-Closes : goal.returns-in-Closes
 returns-in-Closes t c = record { fewer = omega arith; walk = λ ns f n h. block-kind (place_in ns) c.args.text.now c.args.deep c.args.left c.args.pos c.args.some f c.in_ok-lined.lined Closes h (omega arith) (c.in_ok-lined.ensures.walk ns n) c.in-Closes.ensures }
 
-pub returns-in_err-body : goal.returns-in_err-body
-returns-in_err-body t c =
-    let p = err_from_is_err_and c.from_residual-in_err-body.result c.from_residual-in_err-body.ensures.1 in
+pub returns-in_err-body-in-Loops : goal.returns-in_err-body-in-Loops
+returns-in_err-body-in-Loops t c =
+    let p = err_from_is_err_and c.from_residual-in_err-body-in-Loops.result c.from_residual-in_err-body-in-Loops.ensures.1 in
     let m : 0 < c.args.left = c.in_ok-lined.ensures.more in
-    rw (p.1, p.2) (record { fewer = tt; walk = λ ns f n h. then-err _ _ _ (c.in_err-body.ensures.walk ns (f - 1) n (omega arith) ∙ ap (λ d. block_at (place_in ns) c.args.text.now (f - 1) d (c.args.left - 1) c.in_ok-lined.lined.next false) c.saturating_sub.ensures) ∙ block-kind (place_in ns) c.args.text.now c.args.deep c.args.left c.args.pos c.args.some f c.in_ok-lined.lined Loops h (omega arith) (c.in_ok-lined.ensures.walk ns n) c.in-Loops.ensures })
+    rw (p.1, p.2) (record { fewer = tt; walk = λ ns f n h. then-err _ _ _ (c.in_err-body-in-Loops.ensures.walk ns (f - 1) n (omega arith) ∙ ap (λ d. block_at (place_in ns) c.args.text.now (f - 1) d (c.args.left - 1) c.in_ok-lined.lined.next false) c.saturating_sub.ensures) ∙ block-kind (place_in ns) c.args.text.now c.args.deep c.args.left c.args.pos c.args.some f c.in_ok-lined.lined Loops h (omega arith) (c.in_ok-lined.ensures.walk ns n) c.in-Loops.ensures })
 
-pub returns-in_err-end : goal.returns-in_err-end
-returns-in_err-end t c =
-    let p = err_from_is_err_and c.from_residual-in_err-end.result c.from_residual-in_err-end.ensures.1 in
+pub returns-in_err-end-in-Loops : goal.returns-in_err-end-in-Loops
+returns-in_err-end-in-Loops t c =
+    let p = err_from_is_err_and c.from_residual-in_err-end-in-Loops.result c.from_residual-in_err-end-in-Loops.ensures.1 in
     let m : 0 < c.args.left = c.in_ok-lined.ensures.more in
-    rw (p.1, p.2) (record { fewer = tt; walk = λ ns f n h. then-err _ _ _ c.in_err-end.ensures ∙ then_ok _ _ _ (c.in_ok-body.ensures.walk ns (f - 1) n (omega arith) ∙ ap (λ d. block_at (place_in ns) c.args.text.now (f - 1) d (c.args.left - 1) c.in_ok-lined.lined.next false) c.saturating_sub.ensures) ∙ block-kind (place_in ns) c.args.text.now c.args.deep c.args.left c.args.pos c.args.some f c.in_ok-lined.lined Loops h (omega arith) (c.in_ok-lined.ensures.walk ns n) c.in-Loops.ensures })
+    rw (p.1, p.2) (record { fewer = tt; walk = λ ns f n h. then-err _ _ _ c.in_err-end-in-Loops.ensures ∙ then_ok _ _ _ (c.in_ok-body-in-Loops.ensures.walk ns (f - 1) n (omega arith) ∙ ap (λ d. block_at (place_in ns) c.args.text.now (f - 1) d (c.args.left - 1) c.in_ok-lined.lined.next false) c.saturating_sub.ensures) ∙ block-kind (place_in ns) c.args.text.now c.args.deep c.args.left c.args.pos c.args.some f c.in_ok-lined.lined Loops h (omega arith) (c.in_ok-lined.ensures.walk ns n) c.in-Loops.ensures })
 
-pub returns-in_ok-end : goal.returns-in_ok-end
-returns-in_ok-end t c =
+pub returns-in_ok-end-in-Loops : goal.returns-in_ok-end-in-Loops
+returns-in_ok-end-in-Loops t c =
     let m : 0 < c.args.left = c.in_ok-lined.ensures.more in
-    let e : c.in_ok-end.end.left ≡ c.in_ok-body.body.left = loop-left c.in_ok-body.body c.in_ok-end.end c.in_ok-end.ensures in
-    let b : c.in_ok-body.body.left ≤ c.args.left - 1 = c.in_ok-body.ensures.fewer in
+    let e : c.in_ok-end-in-Loops.end.left ≡ c.in_ok-body-in-Loops.body.left = loop-left c.in_ok-body-in-Loops.body c.in_ok-end-in-Loops.end c.in_ok-end-in-Loops.ensures in
+    let b : c.in_ok-body-in-Loops.body.left ≤ c.args.left - 1 = c.in_ok-body-in-Loops.ensures.fewer in
     record {
-      fewer = made-less c.block-in-Loops-2.result c.in_ok-end.end.left c.args.left (omega arith) c.block-in-Loops-2.ensures.fewer;
-      walk = λ ns f n h. c.block-in-Loops-2.ensures.walk ns (f - 1) n (omega arith) ∙ then_ok _ _ _ c.in_ok-end.ensures ∙ then_ok _ _ _ (c.in_ok-body.ensures.walk ns (f - 1) n (omega arith) ∙ ap (λ d. block_at (place_in ns) c.args.text.now (f - 1) d (c.args.left - 1) c.in_ok-lined.lined.next false) c.saturating_sub.ensures) ∙ block-kind (place_in ns) c.args.text.now c.args.deep c.args.left c.args.pos c.args.some f c.in_ok-lined.lined Loops h (omega arith) (c.in_ok-lined.ensures.walk ns n) c.in-Loops.ensures;
+      fewer = made-less c.block-in-Loops-2.result c.in_ok-end-in-Loops.end.left c.args.left (omega arith) c.block-in-Loops-2.ensures.fewer;
+      walk = λ ns f n h. c.block-in-Loops-2.ensures.walk ns (f - 1) n (omega arith) ∙ then_ok _ _ _ c.in_ok-end-in-Loops.ensures ∙ then_ok _ _ _ (c.in_ok-body-in-Loops.ensures.walk ns (f - 1) n (omega arith) ∙ ap (λ d. block_at (place_in ns) c.args.text.now (f - 1) d (c.args.left - 1) c.in_ok-lined.lined.next false) c.saturating_sub.ensures) ∙ block-kind (place_in ns) c.args.text.now c.args.deep c.args.left c.args.pos c.args.some f c.in_ok-lined.lined Loops h (omega arith) (c.in_ok-lined.ensures.walk ns n) c.in-Loops.ensures;
     }
 
-pub returns-in_err-first : goal.returns-in_err-first
-returns-in_err-first t c =
-    let p = err_from_is_err_and c.from_residual-in_err-first.result c.from_residual-in_err-first.ensures.1 in
+pub returns-in_err-first-in-Opens : goal.returns-in_err-first-in-Opens
+returns-in_err-first-in-Opens t c =
+    let p = err_from_is_err_and c.from_residual-in_err-first-in-Opens.result c.from_residual-in_err-first-in-Opens.ensures.1 in
     let m : 0 < c.args.left = c.in_ok-lined.ensures.more in
-    rw (p.1, p.2) (record { fewer = tt; walk = λ ns f n h. then-err _ _ _ (c.in_err-first.ensures.walk ns (f - 1) n (omega arith) ∙ ap (λ d. block_at (place_in ns) c.args.text.now (f - 1) d (c.args.left - 1) c.in_ok-lined.lined.next false) c.saturating_sub-in-Opens.ensures) ∙ block-kind (place_in ns) c.args.text.now c.args.deep c.args.left c.args.pos c.args.some f c.in_ok-lined.lined Opens h (omega arith) (c.in_ok-lined.ensures.walk ns n) c.in-Opens.ensures })
+    rw (p.1, p.2) (record { fewer = tt; walk = λ ns f n h. then-err _ _ _ (c.in_err-first-in-Opens.ensures.walk ns (f - 1) n (omega arith) ∙ ap (λ d. block_at (place_in ns) c.args.text.now (f - 1) d (c.args.left - 1) c.in_ok-lined.lined.next false) c.saturating_sub-in-Opens.ensures) ∙ block-kind (place_in ns) c.args.text.now c.args.deep c.args.left c.args.pos c.args.some f c.in_ok-lined.lined Opens h (omega arith) (c.in_ok-lined.ensures.walk ns n) c.in-Opens.ensures })
 
-pub returns-in_err-second : goal.returns-in_err-second
-returns-in_err-second t c =
-    let p = err_from_is_err_and c.from_residual-in_err-second.result c.from_residual-in_err-second.ensures.1 in
+pub returns-in_err-second-in-Opens : goal.returns-in_err-second-in-Opens
+returns-in_err-second-in-Opens t c =
+    let p = err_from_is_err_and c.from_residual-in_err-second-in-Opens.result c.from_residual-in_err-second-in-Opens.ensures.1 in
     let m : 0 < c.args.left = c.in_ok-lined.ensures.more in
-    let q : c.in_ok-first.first.left ≤ c.args.left - 1 = c.in_ok-first.ensures.fewer in
-    rw (p.1, p.2) (record { fewer = tt; walk = λ ns f n h. then-err _ _ _ (c.in_err-second.ensures.walk ns (f - 1) n (omega arith) ∙ ap (λ d. block_at (place_in ns) c.args.text.now (f - 1) d c.in_ok-first.first.left c.in_ok-first.first.next false) c.saturating_sub-then-is_else.ensures) ∙ cond-taken _ _ _ (sym c.if-is_else.ensures) ∙ then_ok _ _ _ (c.in_ok-first.ensures.walk ns (f - 1) n (omega arith) ∙ ap (λ d. block_at (place_in ns) c.args.text.now (f - 1) d (c.args.left - 1) c.in_ok-lined.lined.next false) c.saturating_sub-in-Opens.ensures) ∙ block-kind (place_in ns) c.args.text.now c.args.deep c.args.left c.args.pos c.args.some f c.in_ok-lined.lined Opens h (omega arith) (c.in_ok-lined.ensures.walk ns n) c.in-Opens.ensures })
+    let q : c.in_ok-first-in-Opens.first.left ≤ c.args.left - 1 = c.in_ok-first-in-Opens.ensures.fewer in
+    rw (p.1, p.2) (record { fewer = tt; walk = λ ns f n h. then-err _ _ _ (c.in_err-second-in-Opens.ensures.walk ns (f - 1) n (omega arith) ∙ ap (λ d. block_at (place_in ns) c.args.text.now (f - 1) d c.in_ok-first-in-Opens.first.left c.in_ok-first-in-Opens.first.next false) c.saturating_sub-then-is_else.ensures) ∙ cond-taken _ _ _ (sym c.if-is_else.ensures) ∙ then_ok _ _ _ (c.in_ok-first-in-Opens.ensures.walk ns (f - 1) n (omega arith) ∙ ap (λ d. block_at (place_in ns) c.args.text.now (f - 1) d (c.args.left - 1) c.in_ok-lined.lined.next false) c.saturating_sub-in-Opens.ensures) ∙ block-kind (place_in ns) c.args.text.now c.args.deep c.args.left c.args.pos c.args.some f c.in_ok-lined.lined Opens h (omega arith) (c.in_ok-lined.ensures.walk ns n) c.in-Opens.ensures })
 
-pub returns-in_err-last : goal.returns-in_err-last
-returns-in_err-last t c =
-    let p = err_from_is_err_and c.from_residual-in_err-last.result c.from_residual-in_err-last.ensures.1 in
+pub returns-in_err-last-in-Opens : goal.returns-in_err-last-in-Opens
+returns-in_err-last-in-Opens t c =
+    let p = err_from_is_err_and c.from_residual-in_err-last-in-Opens.result c.from_residual-in_err-last-in-Opens.ensures.1 in
     let m : 0 < c.args.left = c.in_ok-lined.ensures.more in
-    let q : c.in_ok-first.first.left ≤ c.args.left - 1 = c.in_ok-first.ensures.fewer in
-    rw (p.1, p.2) (record { fewer = tt; walk = λ ns f n h. then-err _ _ _ c.in_err-last.ensures ∙ then_ok _ _ _ (c.in_ok-second.ensures.walk ns (f - 1) n (omega arith) ∙ ap (λ d. block_at (place_in ns) c.args.text.now (f - 1) d c.in_ok-first.first.left c.in_ok-first.first.next false) c.saturating_sub-then-is_else.ensures) ∙ cond-taken _ _ _ (sym c.if-is_else.ensures) ∙ then_ok _ _ _ (c.in_ok-first.ensures.walk ns (f - 1) n (omega arith) ∙ ap (λ d. block_at (place_in ns) c.args.text.now (f - 1) d (c.args.left - 1) c.in_ok-lined.lined.next false) c.saturating_sub-in-Opens.ensures) ∙ block-kind (place_in ns) c.args.text.now c.args.deep c.args.left c.args.pos c.args.some f c.in_ok-lined.lined Opens h (omega arith) (c.in_ok-lined.ensures.walk ns n) c.in-Opens.ensures })
+    let q : c.in_ok-first-in-Opens.first.left ≤ c.args.left - 1 = c.in_ok-first-in-Opens.ensures.fewer in
+    rw (p.1, p.2) (record { fewer = tt; walk = λ ns f n h. then-err _ _ _ c.in_err-last-in-Opens.ensures ∙ then_ok _ _ _ (c.in_ok-second-in-Opens.ensures.walk ns (f - 1) n (omega arith) ∙ ap (λ d. block_at (place_in ns) c.args.text.now (f - 1) d c.in_ok-first-in-Opens.first.left c.in_ok-first-in-Opens.first.next false) c.saturating_sub-then-is_else.ensures) ∙ cond-taken _ _ _ (sym c.if-is_else.ensures) ∙ then_ok _ _ _ (c.in_ok-first-in-Opens.ensures.walk ns (f - 1) n (omega arith) ∙ ap (λ d. block_at (place_in ns) c.args.text.now (f - 1) d (c.args.left - 1) c.in_ok-lined.lined.next false) c.saturating_sub-in-Opens.ensures) ∙ block-kind (place_in ns) c.args.text.now c.args.deep c.args.left c.args.pos c.args.some f c.in_ok-lined.lined Opens h (omega arith) (c.in_ok-lined.ensures.walk ns n) c.in-Opens.ensures })
 
 pub returns-then-is_else : goal.returns-then-is_else
 returns-then-is_else t c =
     let m : 0 < c.args.left = c.in_ok-lined.ensures.more in
-    let q : c.in_ok-first.first.left ≤ c.args.left - 1 = c.in_ok-first.ensures.fewer in
-    let e : c.in_ok-last.last.left ≡ c.in_ok-second.second.left = end-left c.in_ok-second.second c.in_ok-last.last c.in_ok-last.ensures in
-    let b : c.in_ok-second.second.left ≤ c.in_ok-first.first.left = c.in_ok-second.ensures.fewer in
+    let q : c.in_ok-first-in-Opens.first.left ≤ c.args.left - 1 = c.in_ok-first-in-Opens.ensures.fewer in
+    let e : c.in_ok-last-in-Opens.last.left ≡ c.in_ok-second-in-Opens.second.left = end-left c.in_ok-second-in-Opens.second c.in_ok-last-in-Opens.last c.in_ok-last-in-Opens.ensures in
+    let b : c.in_ok-second-in-Opens.second.left ≤ c.in_ok-first-in-Opens.first.left = c.in_ok-second-in-Opens.ensures.fewer in
     record {
-      fewer = made-less c.block-then-is_else-2.result c.in_ok-last.last.left c.args.left (omega arith) c.block-then-is_else-2.ensures.fewer;
-      walk = λ ns f n h. c.block-then-is_else-2.ensures.walk ns (f - 1) n (omega arith) ∙ then_ok _ _ _ c.in_ok-last.ensures ∙ then_ok _ _ _ (c.in_ok-second.ensures.walk ns (f - 1) n (omega arith) ∙ ap (λ d. block_at (place_in ns) c.args.text.now (f - 1) d c.in_ok-first.first.left c.in_ok-first.first.next false) c.saturating_sub-then-is_else.ensures) ∙ cond-taken _ _ _ (sym c.if-is_else.ensures) ∙ then_ok _ _ _ (c.in_ok-first.ensures.walk ns (f - 1) n (omega arith) ∙ ap (λ d. block_at (place_in ns) c.args.text.now (f - 1) d (c.args.left - 1) c.in_ok-lined.lined.next false) c.saturating_sub-in-Opens.ensures) ∙ block-kind (place_in ns) c.args.text.now c.args.deep c.args.left c.args.pos c.args.some f c.in_ok-lined.lined Opens h (omega arith) (c.in_ok-lined.ensures.walk ns n) c.in-Opens.ensures;
+      fewer = made-less c.block-then-is_else-2.result c.in_ok-last-in-Opens.last.left c.args.left (omega arith) c.block-then-is_else-2.ensures.fewer;
+      walk = λ ns f n h. c.block-then-is_else-2.ensures.walk ns (f - 1) n (omega arith) ∙ then_ok _ _ _ c.in_ok-last-in-Opens.ensures ∙ then_ok _ _ _ (c.in_ok-second-in-Opens.ensures.walk ns (f - 1) n (omega arith) ∙ ap (λ d. block_at (place_in ns) c.args.text.now (f - 1) d c.in_ok-first-in-Opens.first.left c.in_ok-first-in-Opens.first.next false) c.saturating_sub-then-is_else.ensures) ∙ cond-taken _ _ _ (sym c.if-is_else.ensures) ∙ then_ok _ _ _ (c.in_ok-first-in-Opens.ensures.walk ns (f - 1) n (omega arith) ∙ ap (λ d. block_at (place_in ns) c.args.text.now (f - 1) d (c.args.left - 1) c.in_ok-lined.lined.next false) c.saturating_sub-in-Opens.ensures) ∙ block-kind (place_in ns) c.args.text.now c.args.deep c.args.left c.args.pos c.args.some f c.in_ok-lined.lined Opens h (omega arith) (c.in_ok-lined.ensures.walk ns n) c.in-Opens.ensures;
     }
 
-pub returns-in_err-end-2 : goal.returns-in_err-end-2
-returns-in_err-end-2 t c =
-    let p = err_from_is_err_and c.from_residual-in_err-end-2.result c.from_residual-in_err-end-2.ensures.1 in
+pub returns-in_err-end-in-Opens : goal.returns-in_err-end-in-Opens
+returns-in_err-end-in-Opens t c =
+    let p = err_from_is_err_and c.from_residual-in_err-end-in-Opens.result c.from_residual-in_err-end-in-Opens.ensures.1 in
     let m : 0 < c.args.left = c.in_ok-lined.ensures.more in
-    let q : c.in_ok-first.first.left ≤ c.args.left - 1 = c.in_ok-first.ensures.fewer in
-    rw (p.1, p.2) (record { fewer = tt; walk = λ ns f n h. then-err _ _ _ c.in_err-end-2.ensures ∙ cond-passed _ _ _ (sym c.if-is_else.ensures) ∙ then_ok _ _ _ (c.in_ok-first.ensures.walk ns (f - 1) n (omega arith) ∙ ap (λ d. block_at (place_in ns) c.args.text.now (f - 1) d (c.args.left - 1) c.in_ok-lined.lined.next false) c.saturating_sub-in-Opens.ensures) ∙ block-kind (place_in ns) c.args.text.now c.args.deep c.args.left c.args.pos c.args.some f c.in_ok-lined.lined Opens h (omega arith) (c.in_ok-lined.ensures.walk ns n) c.in-Opens.ensures })
+    let q : c.in_ok-first-in-Opens.first.left ≤ c.args.left - 1 = c.in_ok-first-in-Opens.ensures.fewer in
+    rw (p.1, p.2) (record { fewer = tt; walk = λ ns f n h. then-err _ _ _ c.in_err-end-in-Opens.ensures ∙ cond-passed _ _ _ (sym c.if-is_else.ensures) ∙ then_ok _ _ _ (c.in_ok-first-in-Opens.ensures.walk ns (f - 1) n (omega arith) ∙ ap (λ d. block_at (place_in ns) c.args.text.now (f - 1) d (c.args.left - 1) c.in_ok-lined.lined.next false) c.saturating_sub-in-Opens.ensures) ∙ block-kind (place_in ns) c.args.text.now c.args.deep c.args.left c.args.pos c.args.some f c.in_ok-lined.lined Opens h (omega arith) (c.in_ok-lined.ensures.walk ns n) c.in-Opens.ensures })
 
-pub returns-in_ok-end-2 : goal.returns-in_ok-end-2
-returns-in_ok-end-2 t c =
+pub returns-in_ok-end-in-Opens : goal.returns-in_ok-end-in-Opens
+returns-in_ok-end-in-Opens t c =
     let m : 0 < c.args.left = c.in_ok-lined.ensures.more in
-    let q : c.in_ok-first.first.left ≤ c.args.left - 1 = c.in_ok-first.ensures.fewer in
-    let e : c.in_ok-end-2.end.left ≡ c.in_ok-first.first.left = end-left c.in_ok-first.first c.in_ok-end-2.end c.in_ok-end-2.ensures in
+    let q : c.in_ok-first-in-Opens.first.left ≤ c.args.left - 1 = c.in_ok-first-in-Opens.ensures.fewer in
+    let e : c.in_ok-end-in-Opens.end.left ≡ c.in_ok-first-in-Opens.first.left = end-left c.in_ok-first-in-Opens.first c.in_ok-end-in-Opens.end c.in_ok-end-in-Opens.ensures in
     record {
-      fewer = made-less c.block-in-Opens-2.result c.in_ok-end-2.end.left c.args.left (omega arith) c.block-in-Opens-2.ensures.fewer;
-      walk = λ ns f n h. c.block-in-Opens-2.ensures.walk ns (f - 1) n (omega arith) ∙ then_ok _ _ _ c.in_ok-end-2.ensures ∙ cond-passed _ _ _ (sym c.if-is_else.ensures) ∙ then_ok _ _ _ (c.in_ok-first.ensures.walk ns (f - 1) n (omega arith) ∙ ap (λ d. block_at (place_in ns) c.args.text.now (f - 1) d (c.args.left - 1) c.in_ok-lined.lined.next false) c.saturating_sub-in-Opens.ensures) ∙ block-kind (place_in ns) c.args.text.now c.args.deep c.args.left c.args.pos c.args.some f c.in_ok-lined.lined Opens h (omega arith) (c.in_ok-lined.ensures.walk ns n) c.in-Opens.ensures;
+      fewer = made-less c.block-in-Opens-2.result c.in_ok-end-in-Opens.end.left c.args.left (omega arith) c.block-in-Opens-2.ensures.fewer;
+      walk = λ ns f n h. c.block-in-Opens-2.ensures.walk ns (f - 1) n (omega arith) ∙ then_ok _ _ _ c.in_ok-end-in-Opens.ensures ∙ cond-passed _ _ _ (sym c.if-is_else.ensures) ∙ then_ok _ _ _ (c.in_ok-first-in-Opens.ensures.walk ns (f - 1) n (omega arith) ∙ ap (λ d. block_at (place_in ns) c.args.text.now (f - 1) d (c.args.left - 1) c.in_ok-lined.lined.next false) c.saturating_sub-in-Opens.ensures) ∙ block-kind (place_in ns) c.args.text.now c.args.deep c.args.left c.args.pos c.args.some f c.in_ok-lined.lined Opens h (omega arith) (c.in_ok-lined.ensures.walk ns n) c.in-Opens.ensures;
     }

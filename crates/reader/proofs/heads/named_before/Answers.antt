@@ -13,21 +13,21 @@ loop-k-init c seen z e w a d = (d, refl)
 
 pub loop-k-preserved : goal.loop-k-preserved
 loop-k-preserved c seen z e w a d =
-    let lt : c.loop-k.-k < length seen = omega (arith, e, c.loop-k-test.true) in
-    seen-on c.args.text.now seen z (between c.args.from c.args.to c.args.text.now) c.loop-k.at c.loop-k.-k w a (c.loop-k.invariant seen z e w a d) lt c.word_end-end.result c.word_end-end.ensures
+    let lt : c.loop-k._k < length seen = omega (arith, e, c.loop-k-test.true) in
+    seen-on c.args.text.now seen z (between c.args.from c.args.to c.args.text.now) c.loop-k.at c.loop-k._k w a (c.loop-k.invariant seen z e w a d) lt c.word_end-end.result c.word_end-end.ensures
     (not_from_Decides _ (slice_eq-Decides Decides-eqb _ _ _ c.eq.ensures) c.if-eq.false)
 
 pub returns-then-at-text : goal.returns-then-at-text
 returns-then-at-text c h k seen z e w a d =
-    let lt : c.loop-k.-k < length seen = omega (arith, e, c.loop-k-test.true) in
-    absurd (omega (arith, c.if-at-text.true, there c.args.text.now seen z (between c.args.from c.args.to c.args.text.now) c.loop-k.at c.loop-k.-k w a (c.loop-k.invariant seen z e w a d) lt))
+    let lt : c.loop-k._k < length seen = omega (arith, e, c.loop-k-test.true) in
+    absurd (omega (arith, c.if-at-text.true, there c.args.text.now seen z (between c.args.from c.args.to c.args.text.now) c.loop-k.at c.loop-k._k w a (c.loop-k.invariant seen z e w a d) lt))
 
 pub returns-then-eq : goal.returns-then-eq
 returns-then-eq c h k seen z e w a d =
-    let lt : c.loop-k.-k < length seen = omega (arith, e, c.loop-k-test.true) in
-    seen-found c.args.text.now seen z (between c.args.from c.args.to c.args.text.now) c.loop-k.at c.loop-k.-k w a (c.loop-k.invariant seen z e w a d) lt c.word_end-end.result c.word_end-end.ensures
+    let lt : c.loop-k._k < length seen = omega (arith, e, c.loop-k-test.true) in
+    seen-found c.args.text.now seen z (between c.args.from c.args.to c.args.text.now) c.loop-k.at c.loop-k._k w a (c.loop-k.invariant seen z e w a d) lt c.word_end-end.result c.word_end-end.ensures
     ((slice_eq-Decides Decides-eqb _ _ _ c.eq.ensures).0 c.if-eq.true)
 
 pub returns : goal.returns
 returns c h k seen z e w a d =
-    seen_none c.args.text.now seen z (between c.args.from c.args.to c.args.text.now) c.loop-k.at c.loop-k.-k (c.loop-k.invariant seen z e w a d) (omega (arith, e, c.loop-k-test.false))
+    seen_none c.args.text.now seen z (between c.args.from c.args.to c.args.text.now) c.loop-k.at c.loop-k._k (c.loop-k.invariant seen z e w a d) (omega (arith, e, c.loop-k-test.false))

@@ -32,6 +32,6 @@ module _ (t : List ℕ) (k line start line' start' : ℕ) (h : k < length t) whe
 pub loop-k-preserved : goal.loop-k-preserved
 loop-k-preserved c =
     elim c.if-text-k-eq10.branch [
-      | then-text-k-eq10 w ↦ new_line c.args.text.now c.loop-k.k c.loop-k.line c.loop-k.start c.if-text-k-eq10.line c.if-text-k-eq10.start (omega arith) w.if-text-k-eq10.true w.line_is w.start-is c.loop-k.invariant
-      | else-text-k-eq10 w ↦ same_line c.args.text.now c.loop-k.k c.loop-k.line c.loop-k.start c.if-text-k-eq10.line c.if-text-k-eq10.start (omega arith) w.if-text-k-eq10.false w.line_is w.start-is c.loop-k.invariant
+      | then-text-k-eq10 w ↦ new_line c.args.text.now c.loop-k.k c.loop-k.line c.loop-k.start c.if-text-k-eq10.line c.if-text-k-eq10.start (omega arith) w.if-text-k-eq10.true w.line-is w.start-is c.loop-k.invariant
+      | else-text-k-eq10 w ↦ same_line c.args.text.now c.loop-k.k c.loop-k.line c.loop-k.start c.if-text-k-eq10.line c.if-text-k-eq10.start (omega arith) w.if-text-k-eq10.false w.line-is w.start-is c.loop-k.invariant
     ]

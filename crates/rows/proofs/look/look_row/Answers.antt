@@ -33,7 +33,7 @@ pub loop-k-preserved : goal.loop-k-preserved
 loop-k-preserved c =
     let l = c.loop-k.invariant.0 in (
       omega arith,
-      c.either-seen.type-inv,
+      c.either-seen.type_inv,
       subst (λ (r : Look). GetsSmaller (join_at c.args.z c.args.lanes.now c.args.g c.args.start) (depth_of c.args.z c.args.lanes.now c.args.g c.args.start) r) (sym c.newest_held-held.ensures) (held-smaller (join_at c.args.z c.args.lanes.now c.args.g c.args.start) (depth_of c.args.z c.args.lanes.now c.args.g c.args.start) (width_of c.args.z c.args.start) (stands_at c.args.z c.args.lanes.now c.args.g c.args.start) c.loop-k.k c.loop-k.seen c.without-mine.result c.both-come.result c.lanes_at.result c.join_of-join.result c.loop-k-test.true c.loop-k.invariant.0 c.join_of-join.ensures c.without-mine.ensures.bits c.lanes_at.ensures c.both-come.ensures c.loop-k.held c.loop-k.invariant.2),
       λ fits. (
         more (join_at c.args.z c.args.lanes.now c.args.g c.args.start) (depth_of c.args.z c.args.lanes.now c.args.g c.args.start) (width_of c.args.z c.args.start) (stands_at c.args.z c.args.lanes.now c.args.g c.args.start) c.loop-k.k c.loop-k.seen c.without-mine.result c.both-come.result c.lanes_at.result c.join_of-join.result c.loop-k-test.true c.loop-k.invariant.0 c.join_of-join.ensures c.without-mine.ensures.bits c.lanes_at.ensures c.both-come.ensures (step_at c.args.steps.now c.args.lines) fits (c.loop-k.invariant.3 fits).0 c.without.result c.party_of-party.result c.without.ensures.bits c.party_of-party.ensures c.if-party-ne0.false c.either-seen.result c.either-seen.ensures,

@@ -7,7 +7,7 @@ use Rattle.rows.specs.Pick.{stands_at, PartyAmong}
 use Rattle.rows.proofs.Parts.{width-within, in-width}
 use Rattle.rows.proofs.Parties.{lowest-there, fewer, party-kept, party-new, party-none, party-end}
 use Rattle.rows.proofs.pick.party_of.Goals as goal
-use Rattle.rows.proofs.pick.party_of.Goals.{then-is-act+then-best-eq0, then-is-act+else-best-eq0+else-line-best, else-is-act}
+use Rattle.rows.proofs.pick.party_of.Goals.{then-is_act+then-best-eq0, then-is_act+else-best-eq0+else-line-best, else-is_act}
 
 pub returns-then-start-low : goal.returns-then-start-low
 returns-then-start-low c fits =
@@ -49,13 +49,13 @@ again c fits =
     let p = stands_at c.args.z c.args.lanes.now c.args.g c.args.start in
     let w = width_of c.args.z c.args.start in
     elim c.if-is_act.branch [
-      | then-is-act+then-best-eq0 u ↦ rw u.best-is (party-new code p c.args.free w fits c.loop-left.left c.lowest-low.result c.line_of-line.result c.both-here.result c.without-left.result c.loop-left.best a l.1 c.line_of-line.ensures (here-is c) c.without-left.ensures.bits (sym c.is_act.ensures ∙ u.if-is-act.true))
-      | then-is-act+else-best-eq0+else-line-best u ↦ rw u.best-is (party-kept code p c.args.free w fits c.loop-left.left c.lowest-low.result c.line_of-line.result c.both-here.result c.without-left.result c.loop-left.best a l.1 c.line_of-line.ensures (here-is c) c.without-left.ensures.bits (inr u.if-best-eq0.false))
-      | else-is-act u ↦ rw u.best-is (party-kept code p c.args.free w fits c.loop-left.left c.lowest-low.result c.line_of-line.result c.both-here.result c.without-left.result c.loop-left.best a l.1 c.line_of-line.ensures (here-is c) c.without-left.ensures.bits (inl (sym c.is_act.ensures ∙ u.if-is-act.false)))
+      | then-is_act+then-best-eq0 u ↦ rw u.best-is (party-new code p c.args.free w fits c.loop-left.left c.lowest-low.result c.line_of-line.result c.both-here.result c.without-left.result c.loop-left.best a l.1 c.line_of-line.ensures (here-is c) c.without-left.ensures.bits (sym c.is_act.ensures ∙ u.if-is_act.true))
+      | then-is_act+else-best-eq0+else-line-best u ↦ rw u.best-is (party-kept code p c.args.free w fits c.loop-left.left c.lowest-low.result c.line_of-line.result c.both-here.result c.without-left.result c.loop-left.best a l.1 c.line_of-line.ensures (here-is c) c.without-left.ensures.bits (inr u.if-best-eq0.false))
+      | else-is_act u ↦ rw u.best-is (party-kept code p c.args.free w fits c.loop-left.left c.lowest-low.result c.line_of-line.result c.both-here.result c.without-left.result c.loop-left.best a l.1 c.line_of-line.ensures (here-is c) c.without-left.ensures.bits (inl (sym c.is_act.ensures ∙ u.if-is_act.false)))
     ]
 
 pub loop-left-preserved : goal.loop-left-preserved
-loop-left-preserved c = (c.without-left.type-inv, again c)
+loop-left-preserved c = (c.without-left.type_inv, again c)
 
 pub loop-left-init : goal.loop-left-init
 loop-left-init c = (c.ranges.free.fits, λ fits. party-none (step_at c.args.steps.now c.args.lines) (stands_at c.args.z c.args.lanes.now c.args.g c.args.start) c.args.free (width_of c.args.z c.args.start) fits)

@@ -1,4 +1,6 @@
 // Runs a program on a field, turn by turn as a file says, and then one lane after the other; prints what is told.
+#![tactic(auto)]
+
 use std::io;
 
 const USAGE: &str =

@@ -1,19 +1,17 @@
 -- What a plan gives: slices that are long enough, and a program to start.
-use Rattle.std.proofs.Common.{◌≡◌, ℕ, ◌+◌, ◌-◌, ◌*◌, ◌<◌, ◌≤◌, List, [], length, get_or, take, drop, sym, refl, ap, ◌∙◌, subst, inl, inr, not-suc-le-zero, mul_right_comm, arith, length-drop, length-take}
+use Rattle.std.proofs.Common.{◌≡◌, ℕ, ◌+◌, ◌-◌, ◌*◌, ◌≤◌, List, [], length, get_or, take, drop, sym, ap, ◌∙◌, subst, inl, inr, not-suc-le-zero, mul_right_comm, arith, length-drop}
 use Rattle.std.proofs.lemmas.List.{get_or-take, get_or-drop, length-take-le}
 use Rattle.lanes.specs.Syntax.{Program, Body}
 use Rattle.lanes.specs.Grid.{Grid, Turn, of, release, begin}
 use Rattle.lanes.specs.Told.{Shows}
 use Rattle.lanes.specs.Told as meaning
-use Rattle.grammar.specs.Taken.{Taken, lines_in}
-use Rattle.reader.specs.Texts.{ReadAs}
-use Rattle.formats.specs.Field.{IsField, cells_read}
+use Rattle.grammar.specs.Taken.{Taken}
 use Rattle.formats.specs.Meaning.{meant}
 use Rattle.formats.specs.declared.sizes.Room.{Room}
 use Rattle.formats.specs.declared.told.Told.{Told}
 use Rattle.store.specs.declared.Sizes.{Sizes}
-use Rattle.store.specs.Layout.{Sized, slots, room as lanes-room, base, cells_room}
-use Rattle.store.specs.Lent.{upto, field_of, Lent}
+use Rattle.store.specs.Layout.{Sized, room as lanes-room, base, cells_room}
+use Rattle.store.specs.Lent.{field_of, Lent}
 use Rattle.store.proofs.Upto.{upto_is, upto-length}
 use Rattle.machine.specs.declared.verdict.Verdict.{Verdict}
 use Rattle.machine.specs.Schedule.{Before, Passed}

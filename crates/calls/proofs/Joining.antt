@@ -1,10 +1,8 @@
 -- From what rows in lockstep know at the end to what users read.
-use Rattle.std.proofs.Common.{◌≡◌, ℕ, ◌<◌, ◌≤◌, Bool, true, List, [], ◌∷◌, ◌++◌, Ok, Err, Result, sym, refl, ap, ◌∙◌, subst, append-nil, arith}
-use Rattle.lanes.specs.Syntax.{Program, Body}
+use Rattle.std.proofs.Common.{◌≡◌, ℕ, true, List, ◌++◌, Ok, Err, Result, sym, refl, ap, ◌∙◌, subst, append-nil, arith}
+use Rattle.lanes.specs.Syntax.{Program}
 use Rattle.lanes.specs.Grid.{Grid, Turn, turns, all_ended, begin}
 use Rattle.lanes.specs.Told.{cells, Shows}
-use Rattle.lanes.specs.Told as meaning
-use Rattle.grammar.specs.Taken.{Taken}
 use Rattle.formats.specs.Field.{cells_read}
 use Rattle.code.specs.Lines.{left_at, lines_of}
 use Rattle.store.specs.declared.Sizes.{Sizes}

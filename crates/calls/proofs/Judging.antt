@@ -1,7 +1,7 @@
 -- From what the machine's own row of turns shows to what users read; and how a machine that was loaded sets out.
-use Rattle.std.proofs.Common.{◌≡◌, ℕ, zero, suc, ◌+◌, ◌*◌, ◌<◌, ◌≤◌, ◌⊎◌, List, [], ◌∷◌, ◌++◌, length, sym, refl, ap, ◌∙◌, subst, inl, inr, not-suc-le-zero, arith}
+use Rattle.std.proofs.Common.{◌≡◌, ℕ, ◌≤◌, List, [], sym, refl, ◌∙◌, subst, inl, not-suc-le-zero, arith}
 use Rattle.lanes.specs.Syntax.{Program, Body, end, put, read_shared, write_shared, read_all, write_all, barrier, when, while}
-use Rattle.lanes.specs.Grid.{Grid, Turn, Mark, turns, marked, steps, begin}
+use Rattle.lanes.specs.Grid.{Turn, turns, marked, steps, begin}
 use Rattle.lanes.specs.Race.{Races}
 use Rattle.lanes.specs.Told.{Told, cells, Shows, Right, NoneWrong}
 use Rattle.lanes.proofs.Orders.{any-order-from}
@@ -10,9 +10,8 @@ use Rattle.lanes.proofs.Wrong.{begin-right}
 use Rattle.code.specs.Lines.{left_at, lines_of}
 use Rattle.code.proofs.Left.{left-zero}
 use Rattle.store.specs.declared.Sizes.{Sizes}
-use Rattle.store.specs.Lent.{line_at, phase_of_spec, grid_of}
+use Rattle.store.specs.Lent.{line_at, grid_of}
 use Rattle.formats.specs.Field.{cells_read}
-use Rattle.machine.specs.Sofar.{Sofar}
 use Rattle.machine.specs.Verdict.{barriers, highest, StandsAt}
 use Rattle.calls.specs.Load.{Loads}
 use Rattle.calls.specs.Judge.{Leaves, Judged}

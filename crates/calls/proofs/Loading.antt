@@ -1,31 +1,30 @@
 -- The field that was copied in is the one that the bytes are, and what was loaded stands for the beginning.
-use Rattle.std.proofs.Common.{◌≡◌, ℕ, suc, ◌+◌, ◌-◌, ◌*◌, ◌<◌, ◌≤◌, false, ◌⊎◌, List, [], ◌∷◌, ◌++◌, map, length, get_or, take, drop, sym, refl, ap, ◌∙◌, subst, inl, inr, arith}
+use Rattle.std.proofs.Common.{◌≡◌, ℕ, suc, ◌+◌, ◌-◌, ◌*◌, ◌<◌, ◌≤◌, false, ◌⊎◌, List, [], ◌++◌, length, get_or, take, sym, ap, ◌∙◌, subst, inl, inr, arith}
 use mathlib.Core.Path.{fun_ext}
 use borrow.Rule.Slice.PartMut.{put_mid, post_of}
-use Rattle.std.specs.List.{range_with_len}
 use Rattle.std.proofs.lemmas.List.{get_or-append_right, get_or_append_left, length-take-le}
 use Rattle.std.proofs.lemmas.List.FromFn.{get_or-map-range_with_len, length-map-range_with_len}
-use Rattle.lanes.specs.Syntax.{Program, Body}
+use Rattle.lanes.specs.Syntax.{Program}
 use Rattle.lanes.specs.Grid.{begin}
 use Rattle.grammar.proofs.Begins.{spelled-names}
-use Rattle.grammar.specs.Taken.{Taken, Distinct, lines_in}
+use Rattle.grammar.specs.Taken.{Distinct}
 use Rattle.formats.specs.Field.{cells_read, cell_at}
 use Rattle.grammar.specs.Spelling.{Named}
 use Rattle.code.specs.declared.step.Step.{Step}
 use Rattle.code.specs.Code.{Coded, Codes, is_jump}
 use Rattle.code.specs.Joins.{Nested, Regions}
 use Rattle.code.specs.Words.{step_at}
-use Rattle.code.specs.Lines.{left_at, lines_of}
+use Rattle.code.specs.Lines.{left_at}
 use Rattle.code.specs.Make.{Compiled}
 use Rattle.code.proofs.Left.{left-zero}
 use Rattle.store.specs.declared.Sizes.{Sizes}
 use Rattle.store.specs.Layout.{Sized, slots, base}
-use Rattle.store.specs.Lent.{upto, slot_of, field_of, line_at, Lined, phase_of_spec, grid_of, Started, Begun}
+use Rattle.store.specs.Lent.{upto, slot_of, field_of, line_at, Started, Begun}
 use Rattle.store.proofs.Upto.{upto-same}
 use Rattle.store.proofs.Slots.{phase-same}
 use Rattle.touches.specs.Whole.{Layout, AllKept}
 use Rattle.machine.specs.Sofar.{layout}
-use Rattle.machine.specs.Line.{Loaded, Straight}
+use Rattle.machine.specs.Line.{Straight}
 use Rattle.machine.specs.Prepare.{Prepared}
 use Rattle.machine.specs.Tally.{AllCounted}
 use Rattle.calls.specs.Load.{Loads, For}

@@ -1,21 +1,18 @@
 -- A lane touches the field and the cells of its own group, and no other.
-use Rattle.std.proofs.Common.{◌≡◌, ℕ, suc, ◌<◌, Bool, true, false, cond, ◌||◌, eqb, ◌≢◌, ◌⊎◌, List, [], ◌∷◌, ◌++◌, length, get_or, sym, refl, ap, ◌∙◌, subst, inl, inr, arith}
-use Rattle.std.proofs.lemmas.Bool.{cases_Bool, or_cases, eqb-true}
+use Rattle.std.proofs.Common.{◌≡◌, ℕ, suc, Bool, true, ◌||◌, eqb, ◌⊎◌, List, [], ◌∷◌, sym, refl, subst, inl, inr, arith}
+use Rattle.std.proofs.lemmas.Bool.{cases_Bool, eqb-true}
 use Rattle.std.proofs.lemmas.Bool.Decides.{nat_tests}
-use Rattle.lanes.specs.Step.{Lane, Touch, Act, quiet, reads, writes, act, touched}
-use Rattle.lanes.specs.Grid.{Grid, Mark, Turn, of, release, the_group, the_lane, the_act, can, did, marks, marks_at, turn, turns, marked}
-use Rattle.lanes.specs.Told as meaning
+use Rattle.lanes.specs.Step.{Lane, Act, quiet, reads, writes, act, touched}
+use Rattle.lanes.specs.Grid.{Grid, Mark, Turn, of, release, the_group, the_lane, the_act, can, did, marks, marks_at, marked}
 use Rattle.lanes.specs.Told.{Shows}
 use Rattle.lanes.proofs.Turns.{marked-did, marked-idle}
 use Rattle.lanes.proofs.Crossing.{All}
 use Rattle.lanes.proofs.Runs.{all_append, all-at}
-use Rattle.lanes.specs.Race.{race}
-use Rattle.machine.specs.declared.outcome.Race.{Race}
 use Rattle.machine.specs.declared.verdict.Verdict.{Verdict}
 use Rattle.machine.specs.declared.verdict.Verdict.TheVariants.{Field, Raced, Wrong, Stuck, TooLong}
 use Rattle.machine.specs.Sofar.{first_mark, second_mark}
 use Rattle.machine.specs.Verdict.{told_of}
-use Rattle.calls.specs.Tell.{InOnePlace, OnePlace}
+use Rattle.calls.specs.Tell.{OnePlace}
 
 abbrev own : ℕ → ℕ → Bool
 own g w = eqb w 0 || eqb w (suc g)

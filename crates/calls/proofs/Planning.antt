@@ -1,5 +1,5 @@
 -- What is taken and what is refused, step by step.
-use Rattle.std.proofs.Common.{◌≡◌, ℕ, ◌+◌, ◌*◌, ◌<◌, ◌≤◌, Bool, true, false, cond, ltb, List, length, Ok, Err, Result, sym, refl, ap, ◌∙◌, arith}
+use Rattle.std.proofs.Common.{◌≡◌, ℕ, ◌≤◌, List, Ok, Err, Result, refl, ap, ◌∙◌, arith}
 use Rattle.std.proofs.lemmas.Bool.Decides.{nat_tests}
 use Rattle.grammar.specs.declared.refusals.Refusal as texts
 use Rattle.reader.specs.declared.texts.Shape.{Shape}
@@ -9,8 +9,6 @@ use Rattle.formats.specs.Sizes.{wanted_for, check_as}
 use Rattle.formats.specs.declared.field.Header.{Header}
 use Rattle.formats.specs.declared.refusal.Refusal as fields
 use Rattle.formats.specs.declared.sizes.Room.{Room}
-use Rattle.calls.specs.declared.plan.Plan.{Plan}
-use Rattle.calls.specs.declared.plan.Refused.{Refused}
 use Rattle.calls.specs.declared.plan.Refused.TheVariants.{Text, Rest}
 use Rattle.calls.specs.Plan.{asked, plan_of_spec, checked, prepared, planned, wanted_by, wanted_as, Plans}
 

@@ -1,5 +1,5 @@
 -- A program and a field, loaded into the lent slices.
-use Rattle.std.specs.Prelude.{◌≡◌, ℕ, suc, ◌*◌, ◌<◌, ◌≤◌, false, ◌⊎◌, List, [], length}
+use Rattle.std.specs.Prelude.{◌≡◌, ℕ, ◌*◌, ◌<◌, ◌≤◌, ◌⊎◌, List, [], length}
 use Rattle.lanes.specs.Syntax.{Program, Body}
 use Rattle.lanes.specs.Grid.{Grid, Turn, begin}
 use Rattle.grammar.specs.Spelling.{Named}

@@ -11,7 +11,6 @@ use Rattle.code.specs.Joins.{Regions}
 use Rattle.store.specs.declared.Sizes.{Sizes}
 use Rattle.store.specs.Lent.{field_of}
 use Rattle.joins.specs.Stack.{RowAt}
-use Rattle.machine.specs.declared.verdict.Verdict.{Verdict}
 use Rattle.machine.specs.declared.verdict.Verdict.TheVariants.{Field}
 use Rattle.machine.specs.Line.{Coding}
 use Rattle.rows.specs.Lockstep.{row_of}

@@ -1,5 +1,5 @@
 -- A text, a field's bytes and lent slices are taken together, or refused: the text before the field, and the field before slices that are too short.
-use Rattle.std.specs.Prelude.{◌≡◌, ℕ, ◌+◌, ◌*◌, ◌≤◌, List, length, Ok, Err, Result}
+use Rattle.std.specs.Prelude.{◌≡◌, ℕ, ◌+◌, ◌*◌, ◌≤◌, List, Ok, Err, Result}
 use Rattle.grammar.specs.Refusals as text
 use Rattle.grammar.specs.declared.refusals.Refusal as texts
 use Rattle.reader.specs.declared.texts.Shape.{Shape}
@@ -11,9 +11,7 @@ use Rattle.formats.specs.declared.field.Header.{Header}
 use Rattle.formats.specs.declared.refusal.Refusal as fields
 use Rattle.formats.specs.declared.sizes.Room.{Room}
 use Rattle.formats.specs.declared.sizes.Shape as sizes
-use Rattle.store.specs.declared.Sizes.{Sizes}
 use Rattle.store.specs.Layout.{cells_room}
-use Rattle.store.specs.Lent.{Lent}
 use Rattle.calls.specs.declared.plan.Plan.{Plan}
 use Rattle.calls.specs.declared.plan.Refused.{Refused}
 use Rattle.calls.specs.declared.plan.Refused.TheVariants.{Text, Rest}

@@ -1,4 +1,6 @@
 // The calls that programs make: a text and a field's bytes, and the lent slices.
+#![tactic(auto)]
+
 pub mod answer;
 mod judge;
 mod load;

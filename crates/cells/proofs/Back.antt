@@ -1,14 +1,13 @@
 -- Printed cells are read as those cells.
-use Rattle.std.proofs.Common.{◌≡◌, ℕ, suc, ◌+◌, ◌*◌, ◌/◌, ◌%◌, ◌<◌, ◌≤◌, Bool, true, false, cond, ◌||◌, eqb, ltb, leb, List, [], ◌∷◌, ◌++◌, length, get_or, drop, Ok, Err, Result, sym, refl, ap, ◌∙◌, arith}
+use Rattle.std.proofs.Common.{◌≡◌, ℕ, suc, ◌+◌, ◌*◌, ◌/◌, ◌%◌, ◌<◌, Bool, true, false, cond, ◌||◌, eqb, leb, List, [], ◌∷◌, ◌++◌, length, get_or, Ok, refl, ap, ◌∙◌, arith}
 use Rattle.std.proofs.lemmas.List.{append_assoc}
 use Rattle.std.proofs.lemmas.Bool.{le-leb}
 use Rattle.std.proofs.lemmas.Bool.Decides.{nat_tests}
 use Rattle.formats.specs.Hex.{hex_digit, hex_two, hex_four, hex_eight}
-use Rattle.formats.specs.Printed.{byte_behind, lines_from, printed}
+use Rattle.formats.specs.Printed.{byte_behind, lines_from}
 use Rattle.cells.specs.declared.scan.Part.{Part}
-use Rattle.cells.specs.declared.scan.Next.{Next}
-use Rattle.cells.specs.declared.scan.Next.TheVariants.{On, Whole, Bad}
-use Rattle.cells.specs.Scan.{step_as, is_white, digit_of, between_words, with_cell, cells_from, begins_field_spec, cells_in}
+use Rattle.cells.specs.declared.scan.Next.TheVariants.{On, Whole}
+use Rattle.cells.specs.Scan.{step_as, is_white, digit_of, between_words, with_cell, cells_from, begins_field_spec}
 use Rattle.cells.specs.Back.{PrintedBack}
 use Rattle.cells.proofs.Ahead.{cons-is, nil_is, onward, in-hex}
 

@@ -1,5 +1,5 @@
 -- Cells in a text, byte by byte.
-use Rattle.std.specs.Prelude.{ℕ, ◌+◌, ◌-◌, ◌*◌, Bool, true, false, cond, not, ◌&&◌, ◌||◌, List, [], ◌∷◌, ◌++◌, length, drop, Ok, Err, Result, ◌==◌, nat_le, slice_index}
+use Rattle.std.specs.Prelude.{ℕ, ◌+◌, ◌-◌, ◌*◌, Bool, true, false, cond, not, ◌&&◌, ◌||◌, List, [], ◌∷◌, length, drop, Ok, Err, Result, ◌==◌, nat_le, slice_index}
 use Rattle.cells.specs.declared.scan.Part.{Part}
 use Rattle.cells.specs.declared.scan.Next.{Next}
 use Rattle.cells.specs.declared.scan.Next.TheVariants.{On, Whole, Bad}

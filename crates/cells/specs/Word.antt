@@ -1,5 +1,5 @@
 -- The word that a byte stands in.
-use Rattle.std.specs.Prelude.{◌≡◌, ℕ, suc, ◌-◌, ◌<◌, ◌≤◌, min, List, length, slice_index, slice_range}
+use Rattle.std.specs.Prelude.{◌≡◌, ℕ, suc, ◌<◌, ◌≤◌, min, List, length, slice_index, slice_range}
 
 -- The word that byte i of the text stands in, or that ends there (or at the text's end, if i lies behind it): the bytes from `from` up to `to`,
 -- all above 32; what stands before them and behind them is not.

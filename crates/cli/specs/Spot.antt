@@ -1,5 +1,5 @@
 -- Where a byte stands in a text.
-use Rattle.std.specs.Prelude.{◌≡◌, ℕ, suc, ◌+◌, ◌<◌, ◌≤◌, min, Bool, cond, ◌≢◌, List, [], ◌∷◌, length, take, ◌==◌, slice_index}
+use Rattle.std.specs.Prelude.{◌≡◌, ℕ, suc, ◌+◌, ◌<◌, ◌≤◌, min, cond, ◌≢◌, List, [], ◌∷◌, length, take, ◌==◌, slice_index}
 use Rattle.cli.specs.declared.spot.Spot.{Spot}
 
 -- How many bytes 10.

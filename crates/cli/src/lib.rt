@@ -1,4 +1,6 @@
 // What the programs share: the words behind their name, and reading a file with a message that names it.
+#![tactic(auto)]
+
 pub mod spot;
 
 ghost use Rattle.std.specs.Prelude.{◌^◌, ◌<◌, ◌≤◌, IfSome, IfOk, vec_len};

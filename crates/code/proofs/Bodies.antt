@@ -1,24 +1,19 @@
 -- What the first line of a body tells, and what is behind it.
-use Rattle.std.proofs.Common.{◌≡◌, ℕ, zero, suc, ◌+◌, ◌-◌, ◌<◌, ◌≤◌, max, Bool, true, false, cond, ◌≢◌, ◌⊎◌, List, [], ◌∷◌, ◌++◌, length, get_or, drop, Some, None, codes, Option, sym, refl, ap, ◌∙◌, subst, inl, inr, append_assoc, arith}
+use Rattle.std.proofs.Common.{◌≡◌, ℕ, suc, ◌≤◌, Bool, true, false, List, [], ◌∷◌, ◌++◌, length, get_or, drop, Some, None, codes, Option, sym, refl, ap, ◌∙◌, subst, append_assoc, arith}
 use Rattle.std.specs.List.{between}
-use Rattle.std.proofs.lemmas.Bool.{cases_Bool}
-use Rattle.lanes.specs.Syntax.{Body, Expr, ended, end, put, read_shared, write_shared, read_all, write_all, barrier, when, while}
+use Rattle.lanes.specs.Syntax.{Body, Expr, end, put, read_shared, write_shared, read_all, write_all, barrier, when, while}
 use Rattle.grammar.specs.declared.keywords.Keyword.{Keyword}
-use Rattle.grammar.specs.declared.keywords.Keyword.TheVariants.{Own, Cells, Cell, Field, Barrier, If, Else, End, While, Lane, Group, Lanes}
+use Rattle.grammar.specs.declared.keywords.Keyword.TheVariants.{Barrier, Else, End}
 use Rattle.grammar.specs.Spelling.{word_byte, each_byte, SpellsExpr, SpellsBody, Named}
-use Rattle.grammar.specs.Stands.{Stands}
 use Rattle.grammar.specs.Names.{PlaceOf}
 use Rattle.grammar.specs.Taken.{depth}
-use Rattle.code.specs.declared.step.Step.{Step}
-use Rattle.code.specs.declared.step.Step.TheVariants.{Branch as SBranch, Jump as SJump}
 use Rattle.code.specs.declared.scan.Line.{Line}
 use Rattle.code.specs.declared.scan.Line.TheVariants.{Heading, Put, Read, Write, Wait, Test, Loop, Otherwise, Close, Nothing}
-use Rattle.code.specs.Lines.{lines_of, else_lines_spec}
+use Rattle.code.specs.Lines.{lines_of}
 use Rattle.code.specs.Code.{Codes}
 use Rattle.code.specs.Scan.{in_line, Scan, ScanBy, NamedScan, NamedBy}
-use Rattle.code.specs.Make.{entry_at, Lies, Halts, no_more, at_else, at_end, Names, NextLine, ElseLies, none, some, stopping, plain_step, Branches}
-use Rattle.code.proofs.Left.{else-none, when-lines}
-use Rattle.code.proofs.Texts.{drop-on, each_append, word_at}
+use Rattle.code.specs.Make.{entry_at, Lies, Halts, no_more, at_else, at_end, Names, NextLine, stopping, plain_step, Branches}
+use Rattle.code.proofs.Texts.{each_append, word_at}
 use Rattle.code.proofs.Heads.{keyword-scan, empty-word, each_none}
 use Rattle.code.proofs.Tells.{next_is, in-one-line, named-in-line, put-line, read-line, read-line-field, write-line, write-line-field, test-line, loop-line}
 

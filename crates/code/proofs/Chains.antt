@@ -1,12 +1,11 @@
 -- Chains of jumps end.
-use Rattle.std.proofs.Common.{◌≡◌, ℕ, ◌<◌, ◌≤◌, Bool, true, false, cond, ltb, ◌⊎◌, List, sym, refl, ap, ◌∙◌, subst, inl, inr, ⊎_elim, arith}
+use Rattle.std.proofs.Common.{◌≡◌, ℕ, ◌<◌, ◌≤◌, true, false, ltb, List, sym, refl, ◌∙◌, subst, inl, inr, arith}
 use Rattle.std.proofs.lemmas.Bool.{cases_Bool, ltb-true}
-use Rattle.std.proofs.lemmas.Bool.Decides.{nat_tests}
 use Rattle.lanes.specs.Syntax.{Body}
 use Rattle.code.specs.declared.step.Step.{Step}
 use Rattle.code.specs.declared.step.Step.TheVariants.{Put, Read, Write, Branch, Jump, Barrier, End}
 use Rattle.code.specs.Words.{step_at}
-use Rattle.code.specs.Code.{Coded, Does, Goes, Onward, Settled, is_loop, is_jump}
+use Rattle.code.specs.Code.{Coded, Does, Goes, Onward, is_loop, is_jump}
 
 -- Behind the last entry there is no jump.
 pub jump-within : (ws : List ℕ) (lines i to : ℕ) → Jump to ≡ step_at ws lines i → i < lines

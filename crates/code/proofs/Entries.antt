@@ -1,10 +1,9 @@
 -- One entry written, and what it leaves.
-use Rattle.std.proofs.Common.{◌≡◌, ℕ, ◌+◌, ◌*◌, ◌/◌, ◌<◌, ◌≤◌, Bool, true, false, cond, ◌&&◌, ltb, ◌≢◌, ◌⊎◌, List, length, get_or, set, sym, refl, ap, ◌∙◌, inl, inr, ⊎_elim, arith, length-set}
+use Rattle.std.proofs.Common.{◌≡◌, ℕ, ◌+◌, ◌*◌, ◌/◌, ◌<◌, ◌≤◌, ◌≢◌, ◌⊎◌, List, length, get_or, set, refl, ◌∙◌, inl, inr, ⊎_elim, arith, length-set}
 use Rattle.std.proofs.lemmas.List.{get_or-set_same, get_or-set_other}
 use Rattle.std.proofs.lemmas.Bool.{cases_order, lt-ltb}
 use Rattle.code.specs.declared.step.Step.{Step}
-use Rattle.code.specs.declared.step.Step.TheVariants.{End}
-use Rattle.code.specs.Words.{step_of, step_at, there, text_line_spec, Wrote}
+use Rattle.code.specs.Words.{step_of, step_at, text_line_spec, Wrote}
 
 -- Five words and the line of the text, at entry i.
 abbrev pub six : List ℕ → ℕ → ℕ → ℕ → ℕ → ℕ → ℕ → ℕ → List ℕ

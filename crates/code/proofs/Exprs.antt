@@ -1,15 +1,15 @@
 -- How far an expression goes in a text, and what it is made of.
-use Rattle.std.proofs.Common.{◌≡◌, ℕ, zero, suc, ◌+◌, ◌-◌, ◌<◌, ◌≤◌, Bool, true, false, cond, not, ◌&&◌, eqb, leb, ◌≢◌, ◌⊎◌, List, [], ◌∷◌, ◌++◌, length, get_or, drop, codes, sym, refl, ap, ◌∙◌, inl, inr, append_assoc, arith}
+use Rattle.std.proofs.Common.{◌≡◌, ℕ, suc, ◌+◌, ◌<◌, ◌≤◌, true, ◌≢◌, List, [], ◌∷◌, ◌++◌, length, get_or, drop, codes, sym, refl, ap, ◌∙◌, append_assoc, arith}
 use Rattle.std.proofs.lemmas.List.{length-append, get_or_append_left}
-use Rattle.std.proofs.lemmas.Bool.{and_parts, and_from, or_left, or_right, true≢false, cases_lt, cases_eq, both_ways}
+use Rattle.std.proofs.lemmas.Bool.{and_parts, or_right}
 use Rattle.std.proofs.lemmas.Bool.Decides.{nat_tests}
 use Rattle.lanes.specs.Syntax.{Expr, fixed, var, lane, group, lanes, plus, minus, times, over, rest_of, less, same}
-use Rattle.grammar.specs.Spelling.{word_byte, digit, letter, each_byte, IsName, IsNumber, infix_of, SpellsExpr, Named}
-use Rattle.grammar.specs.Stands.{Stands, Apart}
+use Rattle.grammar.specs.Spelling.{word_byte, digit, letter, each_byte, IsName, infix_of, SpellsExpr, Named}
+use Rattle.grammar.specs.Stands.{Stands}
 use Rattle.grammar.specs.Words.{WordEnd}
 use Rattle.grammar.proofs.Scanned.{byte_at, word-ends}
 use Rattle.code.specs.Scan.{in_line, closing, EndsAt}
-use Rattle.code.proofs.Texts.{closing-plain, closing-open, closing-shut, closing-last, drop-on, first_byte, each_append, each_weaken}
+use Rattle.code.proofs.Texts.{closing-plain, closing-open, closing-shut, closing-last, drop-on, first_byte, each_weaken}
 
 pub digit-word : (b : ℕ) → digit b ≡ true → word_byte b ≡ true
 digit-word b h = or_right (letter b) (digit b) h

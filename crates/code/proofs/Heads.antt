@@ -1,22 +1,22 @@
 -- The first word of a line.
-use Rattle.std.proofs.Common.{◌≡◌, ℕ, zero, suc, ◌+◌, ◌-◌, ◌<◌, ◌≤◌, Bool, true, false, cond, not, ◌&&◌, eqb, leb, ◌≢◌, ◌⊎◌, List, [], ◌∷◌, ◌++◌, length, get_or, drop, Some, None, codes, Option, sym, refl, ap, ◌∙◌, subst, inl, inr, append_assoc, arith}
+use Rattle.std.proofs.Common.{◌≡◌, ℕ, ◌+◌, ◌≤◌, true, false, cond, ◌≢◌, ◌⊎◌, List, [], ◌∷◌, ◌++◌, length, get_or, drop, Some, None, codes, Option, sym, refl, ap, ◌∙◌, subst, inl, inr, arith}
 use Rattle.std.specs.List.{between}
-use Rattle.std.proofs.lemmas.List.{length-append, length-drop, take_at}
-use Rattle.std.proofs.lemmas.Bool.{true≢false, false≢true}
+use Rattle.std.proofs.lemmas.List.{length-drop}
+use Rattle.std.proofs.lemmas.Bool.{true≢false}
 use Rattle.lanes.specs.Syntax.{Expr, fixed, var, lane, group, lanes, plus, minus, times, over, rest_of, less, same}
 use Rattle.grammar.specs.declared.keywords.Keyword.{Keyword}
 use Rattle.grammar.specs.declared.keywords.Keyword.TheVariants.{Own, Cells, Cell, Field, Barrier, If, Else, End, While, Lane, Group, Lanes}
-use Rattle.grammar.specs.Spelling.{word_byte, digit, each_byte, same_bytes, one_of, keywords, IsName, infix_of, SpellsExpr, Named}
+use Rattle.grammar.specs.Spelling.{word_byte, digit, each_byte, same_bytes, one_of, keywords, IsName, SpellsExpr, Named}
 use Rattle.grammar.specs.Stands.{Stands, Apart}
 use Rattle.grammar.specs.Words.{WordEnd}
-use Rattle.grammar.specs.Names.{NamesIn, Distinct, FirstAt, PlaceOf}
+use Rattle.grammar.specs.Names.{Distinct, PlaceOf}
 use Rattle.grammar.specs.Runs.{written}
-use Rattle.grammar.proofs.Scanned.{byte_at, word-ends}
+use Rattle.grammar.proofs.Scanned.{word-ends}
 use Rattle.code.specs.declared.scan.Line.{Line}
-use Rattle.code.specs.declared.scan.Line.TheVariants.{Put, Read, Write}
+use Rattle.code.specs.declared.scan.Line.TheVariants.{Put}
 use Rattle.code.specs.Scan.{WordIs, Scan, ScanBy, NamedScan, NamedBy, ValueScan, value_line}
 use Rattle.code.specs.Make.{Names}
-use Rattle.code.proofs.Texts.{drop-on, word_at, first_byte}
+use Rattle.code.proofs.Texts.{drop-on, word_at}
 use Rattle.code.proofs.Exprs.{named-names, form, word, bracket, first_of}
 
 pub each_none : each_byte word_byte [] ≡ true

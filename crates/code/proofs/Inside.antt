@@ -1,21 +1,12 @@
 -- What stands in an if or a while, and the entries that are made of it.
-use Rattle.std.proofs.Common.{◌≡◌, ℕ, zero, suc, ◌+◌, ◌-◌, ◌*◌, ◌/◌, ◌<◌, ◌≤◌, max, Bool, true, false, cond, ◌≢◌, ◌⊎◌, List, [], ◌∷◌, ◌++◌, length, get_or, drop, codes, sym, refl, ap, ◌∙◌, subst, inl, inr, append_assoc, arith}
-use Rattle.std.proofs.lemmas.Bool.{cases_Bool, cases_lt, cases_eq, cases_order}
-use Rattle.lanes.specs.Syntax.{Body, Expr, ended, end, put, read_shared, write_shared, read_all, write_all, barrier, when, while}
-use Rattle.grammar.specs.Spelling.{each_byte, SpellsExpr, SpellsBody, Named}
-use Rattle.grammar.specs.Stands.{Stands}
-use Rattle.grammar.specs.Taken.{depth}
+use Rattle.std.proofs.Common.{◌≡◌, ℕ, suc, ◌+◌, ◌*◌, ◌<◌, ◌≤◌, ◌⊎◌, List, refl, ◌∙◌, inl, inr, arith}
+use Rattle.lanes.specs.Syntax.{Body, end, put, read_shared, write_shared, read_all, write_all, barrier, when, while}
 use Rattle.code.specs.declared.step.Step.{Step}
-use Rattle.code.specs.declared.step.Step.TheVariants.{Branch as SBranch, Jump as SJump}
-use Rattle.code.specs.declared.compile.Place.{Place}
 use Rattle.code.specs.Lines.{lines_of, else_lines_spec}
-use Rattle.code.specs.Words.{step_at, there, Wrote}
+use Rattle.code.specs.Words.{step_at, Wrote}
 use Rattle.code.specs.Code.{Codes}
-use Rattle.code.specs.Scan.{in_line}
-use Rattle.code.specs.Make.{entry_at, Kept, SameEntries, Lies, Halts, no_more, at_else, at_end, Names, NextLine, After, Given, Done, Part, Moved, LinesMade, Branches, BranchMade, ElseLies, none, some, ElseGiven, ElseMade, Closed}
-use Rattle.code.proofs.Left.{else-none, else-some, else-room, ended_is, lines_none, when-lines}
-use Rattle.code.proofs.Texts.{each_append}
-use Rattle.code.proofs.Tells.{next_is, in-one-line}
+use Rattle.code.specs.Make.{entry_at, Kept}
+use Rattle.code.proofs.Left.{else-some, else-room, when-lines}
 
 -- Words that are kept.
 pub kept_entry : (words after : List ℕ) (o e i : ℕ) → Kept words after o e → (i < o) ⊎ (e ≤ i) → entry_at after i ≡ entry_at words i

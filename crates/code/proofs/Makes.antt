@@ -1,21 +1,20 @@
 -- An if or a while made into entries.
-use Rattle.std.proofs.Common.{◌≡◌, ℕ, zero, suc, ◌+◌, ◌-◌, ◌*◌, ◌/◌, ◌<◌, ◌≤◌, max, Bool, true, false, cond, ◌≢◌, ◌⊎◌, List, [], ◌∷◌, ◌++◌, length, get_or, drop, codes, sym, refl, ap, ◌∙◌, subst, inl, inr, append_assoc, arith}
+use Rattle.std.proofs.Common.{◌≡◌, ℕ, suc, ◌+◌, ◌<◌, ◌≤◌, Bool, true, false, cond, List, [], ◌∷◌, ◌++◌, length, drop, codes, sym, refl, ap, ◌∙◌, subst, inl, inr, append_assoc, arith}
 use Rattle.std.proofs.lemmas.Bool.{cases_Bool}
 use Rattle.lanes.specs.Syntax.{Body, Expr, ended, end, when, while}
 use Rattle.grammar.specs.Spelling.{each_byte, SpellsExpr, SpellsBody, Named}
 use Rattle.grammar.specs.Stands.{Stands}
 use Rattle.grammar.specs.Taken.{depth}
-use Rattle.code.specs.declared.step.Step.{Step}
 use Rattle.code.specs.declared.step.Step.TheVariants.{Branch as SBranch, Jump as SJump}
 use Rattle.code.specs.declared.compile.Place.{Place}
 use Rattle.code.specs.Lines.{lines_of, else_lines_spec}
 use Rattle.code.specs.Code.{Codes}
 use Rattle.code.specs.Scan.{in_line}
-use Rattle.code.specs.Make.{entry_at, Kept, SameEntries, Lies, Halts, no_more, at_else, at_end, Names, NextLine, After, Given, Done, Part, Moved, LinesMade, Branches, BranchMade, ElseLies, none, some, ElseGiven, ElseMade, Closed}
-use Rattle.code.proofs.Left.{else-none, else-some, else-room, ended_is, lines_none, no_lines, when-lines}
+use Rattle.code.specs.Make.{entry_at, SameEntries, Lies, Halts, at_else, at_end, Names, NextLine, After, Given, Done, Part, LinesMade, Branches, ElseLies, none, some, ElseGiven, ElseMade, Closed}
+use Rattle.code.proofs.Left.{else-none, else-some, ended_is, no_lines, when-lines}
 use Rattle.code.proofs.Texts.{each_append}
 use Rattle.code.proofs.Tells.{next_is, in-one-line}
-use Rattle.code.proofs.Inside.{kept_entry, kept-wider, kept-both, codes_same}
+use Rattle.code.proofs.Inside.{kept_entry, codes_same}
 
 module _ (ns : List (List ℕ)) (text : List ℕ) where
   -- What stands in a branch: its first lines, the second if there are any, and what is behind its end. A while has no second lines.

@@ -1,14 +1,14 @@
 -- What stands in an if or a while stays in it until its lanes join.
-use Rattle.std.proofs.Common.{◌≡◌, ℕ, zero, suc, ◌+◌, ◌-◌, ◌<◌, ◌≤◌, Bool, true, false, cond, ◌⊎◌, List, length, sym, refl, ap, ◌∙◌, subst, inl, inr, arith}
+use Rattle.std.proofs.Common.{◌≡◌, ℕ, suc, ◌+◌, ◌-◌, ◌<◌, ◌≤◌, Bool, true, false, cond, List, length, sym, refl, ap, ◌∙◌, subst, arith}
 use Rattle.std.proofs.lemmas.Bool.{both_ways}
-use Rattle.lanes.specs.Syntax.{Body, Expr, ended, end, put, read_shared, write_shared, read_all, write_all, barrier, when, while}
+use Rattle.lanes.specs.Syntax.{Body, Expr, end, put, read_shared, write_shared, read_all, write_all, barrier, when, while}
 use Rattle.grammar.specs.Spelling.{Named}
 use Rattle.code.specs.declared.step.Step.{Step}
 use Rattle.code.specs.declared.step.Step.TheVariants.{Put, Read, Write, Branch, Jump, Barrier, End}
 use Rattle.code.specs.Lines.{lines_of, else_lines_spec}
 use Rattle.code.specs.Code.{Codes}
-use Rattle.code.specs.Joins.{Among, Within, Nested, JoinsRight, is_branch}
-use Rattle.code.proofs.Left.{else-some, else-none, else-room, when-lines}
+use Rattle.code.specs.Joins.{Within, Nested, JoinsRight, is_branch}
+use Rattle.code.proofs.Left.{else-room, when-lines}
 use Rattle.code.proofs.Walks.{from_next, from-if, from-while}
 
 wider : (lo hi a z : ℕ) (s : Step) → a ≤ lo → hi ≤ z → Within lo hi s → Within a z s

@@ -1,10 +1,9 @@
 -- Lines of a body made into entries, one after the other.
-use Rattle.std.proofs.Common.{◌≡◌, ℕ, zero, suc, ◌+◌, ◌-◌, ◌*◌, ◌/◌, ◌<◌, ◌≤◌, max, Bool, true, false, cond, ◌≢◌, ◌⊎◌, List, [], ◌∷◌, ◌++◌, length, get_or, drop, Some, None, codes, Option, sym, refl, ap, ◌∙◌, subst, inl, inr, append_assoc, arith, MatchOption}
+use Rattle.std.proofs.Common.{◌≡◌, ℕ, suc, ◌+◌, ◌<◌, ◌≤◌, Bool, true, false, List, [], ◌∷◌, ◌++◌, length, drop, Some, None, codes, Option, sym, refl, ap, ◌∙◌, subst, inl, inr, arith, MatchOption}
 use Rattle.std.proofs.lemmas.Bool.{cases_Bool, true≢false, both_ways}
-use Rattle.lanes.specs.Syntax.{Body, Expr, ended, end, when, while}
+use Rattle.lanes.specs.Syntax.{Body, ended, end}
 use Rattle.grammar.specs.declared.keywords.Keyword.TheVariants.{Else, End}
-use Rattle.grammar.specs.Spelling.{each_byte, SpellsExpr, SpellsBody, Named}
-use Rattle.grammar.specs.Stands.{Stands}
+use Rattle.grammar.specs.Spelling.{each_byte, SpellsBody, Named}
 use Rattle.grammar.specs.Taken.{depth}
 use Rattle.code.specs.declared.step.Step.{Step}
 use Rattle.code.specs.declared.scan.Line.{Line}
@@ -14,12 +13,12 @@ use Rattle.code.specs.Lines.{lines_of, else_lines_spec}
 use Rattle.code.specs.Words.{Wrote}
 use Rattle.code.specs.Code.{Codes}
 use Rattle.code.specs.Scan.{Scan}
-use Rattle.code.specs.Make.{entry_at, Kept, SameEntries, Lies, Halts, at_end, Names, NextLine, After, Given, Done, Part, Moved, LinesMade, LineMade, Branches, BranchMade, ElseLies, none, some, ElseGiven, ElseMade, Closed, stopping, plain_step}
+use Rattle.code.specs.Make.{entry_at, Kept, SameEntries, at_end, After, Given, Done, Part, Branches, none, some, ElseGiven, stopping, plain_step}
 use Rattle.code.proofs.Left.{else-none, else-some, else-room, ended_is, lines_none, no_lines}
 use Rattle.code.proofs.Tells.{next_is}
 use Rattle.code.proofs.Heads.{keyword-scan}
-use Rattle.code.proofs.Bodies.{told, Told, halted, plain, branch, Plain, branching, branch_line}
-use Rattle.code.proofs.Inside.{kept_entry, kept-wider, kept-both, kept-none, wrote_kept}
+use Rattle.code.proofs.Bodies.{told, halted, plain, branch, branching, branch_line}
+use Rattle.code.proofs.Inside.{kept_entry}
 
 pub option-weaker : {A : Type 0} (o : Option A) (P R : Type 0) (Q S : A → Type 0) → (P → R) → ((x : A) → Q x → S x) → MatchOption o P Q → MatchOption o R S
 option-weaker None P R Q S f g c = f c

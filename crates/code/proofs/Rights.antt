@@ -1,13 +1,12 @@
 -- Code that stands for a body does at each entry what is left there, and goes to its entries.
-use Rattle.std.proofs.Common.{◌≡◌, ℕ, zero, suc, ◌+◌, ◌-◌, ◌<◌, ◌≤◌, Bool, true, false, cond, ltb, leb, ◌⊎◌, List, length, sym, refl, ap, ◌∙◌, subst, inl, inr, arith}
+use Rattle.std.proofs.Common.{◌≡◌, ℕ, suc, ◌+◌, ◌<◌, ◌≤◌, false, List, length, sym, refl, ap, ◌∙◌, subst, inl, inr, arith}
 use Rattle.std.proofs.lemmas.Bool.{cases_Bool, cases_order}
 use Rattle.lanes.specs.Syntax.{Body, Expr, followed, ended, end, put, read_shared, write_shared, read_all, write_all, barrier, when, while}
 use Rattle.grammar.specs.Spelling.{Named}
-use Rattle.grammar.specs.Stands.{Stands}
 use Rattle.code.specs.declared.step.Step.{Step}
-use Rattle.code.specs.declared.step.Step.TheVariants.{Put, Read, Write, Branch, Jump, Barrier, End}
+use Rattle.code.specs.declared.step.Step.TheVariants.{End}
 use Rattle.code.specs.Lines.{lines_of, else_lines_spec, left_at}
-use Rattle.code.specs.Code.{Does, Goes, Onward, is_loop, Codes, Coded, IfHere, WhileHere, CodeRight, behind_if, behind_while}
+use Rattle.code.specs.Code.{Does, Goes, Onward, is_loop, Codes, CodeRight}
 use Rattle.code.proofs.Walks.{from_next, from-if, from-while}
 use Rattle.code.proofs.Left.{ended_is, followed-assoc, followed-end, end-followed, left-zero, left-last, else-some, else-none, when-lines, when-first, when-second, when-behind, while-first, while-behind}
 

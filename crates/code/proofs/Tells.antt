@@ -1,21 +1,18 @@
 -- What a line tells of the body that stands there, and where the lines behind it stand.
-use Rattle.std.proofs.Common.{◌≡◌, ℕ, zero, suc, ◌+◌, ◌-◌, ◌<◌, ◌≤◌, Bool, true, false, cond, not, ◌&&◌, eqb, leb, ◌≢◌, ◌⊎◌, List, [], ◌∷◌, ◌++◌, length, get_or, drop, Some, None, codes, Option, sym, refl, ap, ◌∙◌, subst, inl, inr, append_assoc, arith}
-use Rattle.std.specs.List.{between}
-use Rattle.std.proofs.lemmas.List.{length-append, length-drop}
-use Rattle.lanes.specs.Syntax.{Body, Expr, end, put, read_shared, write_shared, read_all, write_all, barrier, when, while, fixed, var, lane, group, lanes, plus, minus, times, over, rest_of, less, same}
+use Rattle.std.proofs.Common.{◌≡◌, ℕ, ◌+◌, ◌≤◌, Bool, true, false, List, [], ◌∷◌, ◌++◌, length, drop, codes, refl, ap, arith}
+use Rattle.std.proofs.lemmas.List.{length-drop}
+use Rattle.lanes.specs.Syntax.{Expr, fixed, var, lane, group, lanes, plus, minus, times, over, rest_of, less, same}
 use Rattle.grammar.specs.declared.keywords.Keyword.{Keyword}
-use Rattle.grammar.specs.declared.keywords.Keyword.TheVariants.{Own, Cells, Cell, Field, Barrier, If, Else, End, While, Lane, Group, Lanes}
-use Rattle.grammar.specs.Spelling.{word_byte, digit, each_byte, IsName, infix_of, SpellsExpr, SpellsBody, Named}
-use Rattle.grammar.specs.Stands.{Stands, Apart}
-use Rattle.grammar.specs.Runs.{written}
-use Rattle.grammar.specs.Names.{NamesIn}
+use Rattle.grammar.specs.declared.keywords.Keyword.TheVariants.{Cell, Field, If, While}
+use Rattle.grammar.specs.Spelling.{word_byte, digit, each_byte, IsName, infix_of, SpellsExpr, Named}
+use Rattle.grammar.specs.Stands.{Stands}
 use Rattle.code.specs.declared.scan.Line.{Line}
-use Rattle.code.specs.declared.scan.Line.TheVariants.{Heading, Put, Read, Write, Wait, Test, Loop, Otherwise, Close, Nothing}
-use Rattle.code.specs.Scan.{in_line, Scan, ScanBy, NamedScan, NamedBy, WriteScan, EndsAt, value_line}
-use Rattle.code.specs.Make.{Lies, Halts, no_more, at_else, at_end, Names, NextLine, ElseLies, none, some, stopping}
-use Rattle.code.proofs.Texts.{drop-on, each_append, each_weaken, word_at, first_byte}
+use Rattle.code.specs.declared.scan.Line.TheVariants.{Put, Read, Write, Test, Loop}
+use Rattle.code.specs.Scan.{in_line, Scan, WriteScan, EndsAt}
+use Rattle.code.specs.Make.{Names, NextLine}
+use Rattle.code.proofs.Texts.{drop-on, each_append, each_weaken}
 use Rattle.code.proofs.Exprs.{named-names, digit-word, word-in_line}
-use Rattle.code.proofs.Heads.{keyword-scan, named-scan, value-keyword, value-expr, empty-word}
+use Rattle.code.proofs.Heads.{keyword-scan, named-scan, value-keyword, value-expr}
 
 -- An expression stands in one line.
 infix-in_line : (u v : List ℕ) (op : ℕ) → in_line op ≡ true → each_byte in_line u ≡ true → each_byte in_line v ≡ true → each_byte in_line (infix_of u op v) ≡ true

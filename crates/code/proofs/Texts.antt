@@ -1,8 +1,8 @@
 -- Parts of a text from a byte on.
-use Rattle.std.proofs.Common.{◌≡◌, ℕ, zero, suc, ◌+◌, ◌-◌, ◌<◌, ◌≤◌, Bool, true, false, cond, not, ◌&&◌, eqb, leb, ◌≢◌, ◌⊎◌, List, [], ◌∷◌, ◌++◌, length, get_or, take, drop, sym, refl, ap, ◌∙◌, inl, inr, add-zero, arith}
+use Rattle.std.proofs.Common.{◌≡◌, ℕ, suc, ◌+◌, ◌-◌, ◌<◌, ◌≤◌, Bool, true, ◌≢◌, List, [], ◌∷◌, ◌++◌, length, get_or, take, drop, sym, refl, ap, ◌∙◌, inl, inr, add-zero, arith}
 use Rattle.std.specs.List.{between}
-use Rattle.std.proofs.lemmas.List.{drop_at, drop-drop, take_at, drop_more, get_or_past, length-append, length-drop, at_drop_more, get_or-drop}
-use Rattle.std.proofs.lemmas.Bool.{and_parts, and_from, cases_order, eq-eqb, ne_eqb, le-leb, lt-leb, cases_lt}
+use Rattle.std.proofs.lemmas.List.{drop_at, drop-drop, take_at, length-append, length-drop, at_drop_more, get_or-drop}
+use Rattle.std.proofs.lemmas.Bool.{and_parts, and_from, cases_order, eq-eqb, ne_eqb, le-leb, lt-leb}
 use Rattle.std.proofs.lemmas.Bool.Decides.{nat_tests}
 use Rattle.grammar.specs.Spelling.{word_byte, each_byte}
 use Rattle.grammar.specs.Stands.{Apart}

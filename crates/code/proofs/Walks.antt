@@ -1,5 +1,5 @@
 -- What holds of each entry of a body: of those of its parts, and of those between them.
-use Rattle.std.proofs.Common.{◌≡◌, ℕ, zero, suc, ◌+◌, ◌-◌, ◌<◌, ◌≤◌, Bool, true, false, ◌⊎◌, subst, inl, inr, arith}
+use Rattle.std.proofs.Common.{◌≡◌, ℕ, zero, suc, ◌+◌, ◌-◌, ◌<◌, false, subst, inl, inr, arith}
 use Rattle.std.proofs.lemmas.Bool.{cases_Bool, cases_order}
 use Rattle.lanes.specs.Syntax.{Body, Expr, ended, when, while}
 use Rattle.code.specs.Lines.{lines_of, else_lines_spec}

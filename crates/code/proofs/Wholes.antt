@@ -1,27 +1,24 @@
 -- Whole texts: where the body begins, and how many lines there are.
-use Rattle.std.proofs.Common.{◌≡◌, ℕ, zero, suc, ◌+◌, ◌-◌, ◌*◌, ◌/◌, ◌<◌, ◌≤◌, max, Bool, true, false, cond, ◌&&◌, eqb, ltb, ◌≢◌, ◌⊎◌, List, [], ◌∷◌, ◌++◌, length, get_or, take, drop, codes, sym, refl, ap, ◌∙◌, subst, inl, inr, append_assoc, arith}
+use Rattle.std.proofs.Common.{◌≡◌, ℕ, suc, ◌+◌, ◌*◌, ◌<◌, ◌≤◌, true, cond, ◌&&◌, eqb, ltb, ◌≢◌, List, [], ◌∷◌, ◌++◌, length, get_or, drop, codes, sym, refl, ap, ◌∙◌, subst, inl, inr, append_assoc, arith}
 use Rattle.std.specs.List.{flat_map}
 use Rattle.std.proofs.lemmas.List.{append-nil, get_or-take}
-use Rattle.std.proofs.lemmas.Bool.{cases_Bool, true≢false, both_ways, and_parts, ltb-true, lt-ltb, le-ltb}
-use Rattle.std.proofs.lemmas.Bool.Decides.{nat_tests}
-use Rattle.lanes.specs.Syntax.{Body, Expr, Program, ended, end, put, read_shared, write_shared, read_all, write_all, barrier, when, while}
+use Rattle.std.proofs.lemmas.Bool.{cases_Bool, both_ways, and_parts, ltb-true, lt-ltb, le-ltb}
+use Rattle.lanes.specs.Syntax.{Body, Program, end, put, read_shared, write_shared, read_all, write_all, barrier, when, while}
 use Rattle.grammar.specs.declared.keywords.Keyword.TheVariants.{Own, Cells}
-use Rattle.grammar.specs.Spelling.{word_byte, digit, each_byte, IsName, SpellsBody, Spelled, Named, OwnLine, CellsLine}
+use Rattle.grammar.specs.Spelling.{word_byte, digit, each_byte, IsName, SpellsBody, Named, CellsLine}
 use Rattle.grammar.specs.Stands.{Apart}
-use Rattle.grammar.specs.Names.{NamesIn}
-use Rattle.grammar.specs.Taken.{Taken, Distinct, depth, lines_in, lines_within}
-use Rattle.code.specs.declared.step.Step.{Step}
+use Rattle.grammar.specs.Taken.{Taken, Distinct, lines_in, lines_within}
 use Rattle.code.specs.declared.step.Step.TheVariants.{End}
 use Rattle.code.specs.declared.scan.Line.{Line}
-use Rattle.code.specs.declared.scan.Line.TheVariants.{Heading, Put, Read, Write, Wait, Test, Loop, Otherwise, Close, Nothing}
+use Rattle.code.specs.declared.scan.Line.TheVariants.{Heading}
 use Rattle.code.specs.declared.compile.Place.{Place}
 use Rattle.code.specs.Lines.{lines_of, else_lines_spec, left_at}
-use Rattle.code.specs.Words.{step_at, there}
+use Rattle.code.specs.Words.{step_at}
 use Rattle.code.specs.Code.{Codes, Coded, CodeRight}
 use Rattle.code.specs.Joins.{Nested, JoinsRight, Regions}
 use Rattle.code.specs.Scan.{in_line, Scan}
-use Rattle.code.specs.Make.{entry_at, Kept, Lies, Halts, no_more, Names, NextLine, Given, Done, Moved, LinesMade, Skipped, Compiled, stopping}
-use Rattle.code.proofs.Left.{else-none, else-some, else-most, no_second, when-lines}
+use Rattle.code.specs.Make.{entry_at, Lies, no_more, Names, NextLine, Given, LinesMade, Skipped, Compiled, stopping}
+use Rattle.code.proofs.Left.{else-most, no_second, when-lines}
 use Rattle.code.proofs.Rights.{code-right}
 use Rattle.code.proofs.Nests.{joins-right}
 use Rattle.code.proofs.Settles.{codes-start}
@@ -30,7 +27,7 @@ use Rattle.code.proofs.Texts.{each_append, each_weaken}
 use Rattle.code.proofs.Exprs.{digit-word, word-in_line}
 use Rattle.code.proofs.Tells.{next_is}
 use Rattle.code.proofs.Heads.{keyword-scan}
-use Rattle.code.proofs.Bodies.{told, halted, plain, branch, branch_line, heading}
+use Rattle.code.proofs.Bodies.{told, halted, plain, branch, heading}
 use Rattle.code.proofs.Inside.{codes_same}
 use Rattle.code.proofs.Parts.{not-stopping}
 

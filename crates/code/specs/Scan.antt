@@ -1,5 +1,5 @@
 -- What one line of a text says: its first word decides, then where its expressions stand.
-use Rattle.std.specs.Prelude.{◌≡◌, ℕ, suc, ◌+◌, ◌-◌, ◌<◌, ◌≤◌, Bool, true, false, cond, not, List, [], ◌∷◌, ◌++◌, length, drop, Some, None, Option, MatchOption, ◌==◌, ◌≢◌, nat_le, slice_index_or}
+use Rattle.std.specs.Prelude.{◌≡◌, ℕ, suc, ◌+◌, ◌-◌, ◌<◌, ◌≤◌, Bool, true, false, cond, not, List, [], ◌∷◌, length, drop, Some, None, Option, MatchOption, ◌==◌, ◌≢◌, nat_le, slice_index_or}
 use Rattle.std.specs.List.{between}
 use Rattle.lanes.specs.Syntax.{Expr}
 use Rattle.grammar.specs.declared.keywords.Keyword.{Keyword}

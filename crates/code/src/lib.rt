@@ -1,4 +1,6 @@
 // A program as steps in lent words: decoded, written, and made from a text.
+#![tactic(auto)]
+
 pub mod compile;
 pub mod jumps;
 mod scan;

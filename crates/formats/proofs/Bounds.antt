@@ -1,5 +1,5 @@
 -- How large the sizes get: proved here once.
-use Rattle.std.proofs.Common.{ℕ, ◌+◌, ◌*◌, ◌≤◌, mul-le-mul, arith}
+use Rattle.std.proofs.Common.{◌+◌, ◌*◌, ◌≤◌, mul-le-mul, arith}
 use Rattle.formats.specs.declared.sizes.Shape.{Shape}
 use Rattle.formats.specs.Sizes.{InBounds, wanted_for, Bounded}
 

@@ -1,9 +1,9 @@
 -- The lines that are printed, put together from their pieces.
-use Rattle.std.proofs.Common.{◌≡◌, ℕ, ◌+◌, ◌≤◌, cond, List, [], ◌∷◌, ◌++◌, length, codes, sym, refl, ap, ◌∙◌}
+use Rattle.std.proofs.Common.{◌≡◌, ℕ, ◌≤◌, cond, List, length, codes}
 use Rattle.formats.specs.declared.told.Touch.{Touch}
 use Rattle.formats.specs.Wrote.{Wrote}
 use Rattle.formats.specs.Printed.{with_number, touch_words}
-use Rattle.formats.proofs.Pieces.{wrote-more, wrote-both}
+use Rattle.formats.proofs.Pieces.{wrote-more}
 
 pub touch-wrote : (t : Touch) (b m₁ m₂ m₃ a : List ℕ) (at k₁ k₂ k₃ to : ℕ) (ws : List ℕ) → at ≤ length b → k₁ ≤ length m₁ → k₂ ≤ length m₂
     → Wrote b m₁ at k₁ (with_number (codes " group ") t.group)

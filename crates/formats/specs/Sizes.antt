@@ -1,5 +1,5 @@
 -- Lent memory by size.
-use Rattle.std.specs.Prelude.{ℕ, ◌+◌, ◌*◌, ◌≤◌, cond, Ok, Err, Result, nat_lt}
+use Rattle.std.specs.Prelude.{◌+◌, ◌*◌, ◌≤◌, cond, Ok, Err, Result, nat_lt}
 use Rattle.formats.specs.declared.refusal.Refusal.{Refusal}
 use Rattle.formats.specs.declared.refusal.Refusal.TheVariants.{Short}
 use Rattle.formats.specs.declared.refusal.Lent.TheVariants.{Steps, Lanes, Cells, Touches, Printed}

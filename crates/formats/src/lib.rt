@@ -1,4 +1,6 @@
 // The outer formats: a field's bytes, what is told in print, lent memory by size.
+#![tactic(auto)]
+
 pub mod field;
 pub mod packed;
 pub mod pen;

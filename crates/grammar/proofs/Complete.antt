@@ -1,19 +1,14 @@
 -- What is spelled at a byte is read there.
-use Rattle.std.proofs.Common.{◌≡◌, ℕ, zero, suc, ◌+◌, ◌-◌, ◌*◌, ◌<◌, ◌≤◌, max, Bool, true, false, cond, not, ◌&&◌, ◌||◌, eqb, ◌≢◌, ◌⊎◌, List, [], ◌∷◌, ◌++◌, length, get_or, take, drop, Some, None, Ok, Err, codes, Option, Result, sym, refl, ap, ◌∙◌, inl, inr, add-zero, arith}
-use Rattle.std.proofs.lemmas.List.{append_assoc, append-nil, length-append, drop-drop, drop_at, take_at, get_or-drop}
-use Rattle.std.proofs.lemmas.Bool.{and_parts, or_parts, lt-ltb, lt-leb, eq-eqb, ne_eqb}
+use Rattle.std.proofs.Common.{◌≡◌, ℕ, suc, ◌+◌, ◌≤◌, Bool, true, false, not, eqb, List, [], ◌∷◌, ◌++◌, length, get_or, take, drop, None, Ok, codes, Option, sym, refl, ap, ◌∙◌, add-zero, arith}
+use Rattle.std.proofs.lemmas.List.{drop-drop, drop_at, take_at, get_or-drop}
+use Rattle.std.proofs.lemmas.Bool.{and_parts, or_parts, lt-leb, eq-eqb}
 use Rattle.std.proofs.lemmas.Bool.Decides.{nat_tests}
-use Rattle.lanes.specs.Syntax.{Expr, fixed, var, lane, group, lanes, plus, minus, times, over, rest_of, less, same}
-use Rattle.lanes.specs.Told.{ExprFits}
-use Rattle.grammar.specs.Spelling.{letter, digit, word_byte, each_byte, same_bytes, one_of, keywords, decimal, IsName, IsNumber, infix_of, SpellsExpr}
+use Rattle.grammar.specs.Spelling.{letter, digit, word_byte, each_byte, same_bytes, one_of, keywords}
 use Rattle.grammar.specs.Stands.{Apart}
-use Rattle.grammar.specs.Runs.{run_of, written}
-use Rattle.grammar.specs.Walk.{key_of, key_at, word_part, word_at, word_atom, some_token, bytes_at, atom_at, operator_at, is_operator_spec, is_atom_spec, expr_at, and_then, number_part}
+use Rattle.grammar.specs.Runs.{run_of}
+use Rattle.grammar.specs.Walk.{key_of, key_at, word_part, word_at, some_token, bytes_at}
 use Rattle.grammar.specs.declared.keywords.Keyword.{Keyword}
-use Rattle.grammar.specs.declared.keywords.Keyword.TheVariants.{Lane, Group, Lanes}
-use Rattle.grammar.specs.declared.tokens.Word.TheVariants as word
-use Rattle.grammar.proofs.Runs.{run_step, run-stop, run-nil, run_none}
-use Rattle.grammar.proofs.Walks.{key-written}
+use Rattle.grammar.proofs.Runs.{run_step, run_none}
 
 -- reading on in a text
 pub first_byte : (text : List ℕ) (i b : ℕ) (z : List ℕ) → drop i text ≡ b ∷ z → get_or text i 0 ≡ b

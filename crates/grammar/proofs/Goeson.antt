@@ -1,16 +1,11 @@
 -- What is read depends on the bytes up to the place where it ends, or is refused, and on no others.
-use Rattle.std.proofs.Common.{◌≡◌, ℕ, zero, suc, ◌+◌, ◌-◌, ◌<◌, ◌≤◌, Bool, true, false, cond, not, ◌&&◌, ◌||◌, eqb, ltb, leb, ◌⊎◌, List, [], ◌∷◌, ◌++◌, length, get_or, take, drop, Some, None, Ok, Err, Option, Result, sym, refl, ap, ◌∙◌, inl, inr, add-zero, arith}
+use Rattle.std.proofs.Common.{◌≡◌, ℕ, suc, ◌+◌, ◌<◌, ◌≤◌, Bool, true, false, cond, List, [], ◌∷◌, length, get_or, take, drop, Ok, Err, Result, sym, refl, ap, ◌∙◌, inl, inr, arith}
 use Rattle.std.proofs.lemmas.List.{get_or-drop}
-use Rattle.std.proofs.lemmas.Bool.{cases_Bool, cases_lt, leb-true, leb-false, le-leb, lt-leb, both_ways}
-use Rattle.grammar.specs.Spelling.{letter, digit, word_byte, decimal}
+use Rattle.std.proofs.lemmas.Bool.{cases_Bool, cases_lt, both_ways}
 use Rattle.grammar.specs.Runs.{run_of}
-use Rattle.grammar.specs.Walk.{key_of, key_at, word_part, word_at, word_atom, own_token, some_token, bytes_at, atom_at, operator_at, is_operator_spec, is_atom_spec, expr_at, and_then, number_part}
+use Rattle.grammar.specs.Walk.{and_then}
 use Rattle.grammar.specs.declared.refusals.Refusal.{Refusal}
-use Rattle.grammar.specs.declared.refusals.Refusal.TheVariants.{Shape, Unknown, Large, Long}
-use Rattle.grammar.specs.declared.keywords.Keyword.{Keyword}
-use Rattle.grammar.specs.declared.tokens.Token.{Token}
-use Rattle.grammar.specs.declared.tokens.Word.{Word}
-use Rattle.grammar.specs.declared.tokens.Word.TheVariants as word
+use Rattle.grammar.specs.declared.refusals.Refusal.TheVariants.{Shape}
 use Rattle.grammar.proofs.Runs.{run_step, run-stop, run-nil}
 use Rattle.grammar.proofs.Sound.{not_err, same_ok}
 

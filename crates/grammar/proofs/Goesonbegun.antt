@@ -1,30 +1,28 @@
 -- What is refused for its shape can go on up to the place where it is refused: lines. A line that is begun goes on to a body of one line,
 -- or to an if or a while with its end.
-use Rattle.std.proofs.Common.{◌≡◌, ℕ, zero, suc, ◌+◌, ◌-◌, ◌<◌, ◌≤◌, Bool, true, false, cond, eqb, ltb, ◌≢◌, ◌⊎◌, List, [], ◌∷◌, ◌++◌, length, get_or, take, drop, Some, None, Ok, Err, codes, Option, Result, sym, refl, ap, ◌∙◌, inl, inr, arith}
+use Rattle.std.proofs.Common.{◌≡◌, ℕ, ◌+◌, ◌<◌, Bool, true, false, eqb, ◌≢◌, ◌⊎◌, List, [], ◌∷◌, ◌++◌, length, get_or, drop, Some, None, Ok, Err, codes, Option, Result, sym, refl, ap, ◌∙◌, inl, inr, arith}
 use Rattle.std.proofs.lemmas.List.{append_assoc, length-append}
 use Rattle.lanes.specs.Syntax.{Expr, Body, end, put, read_shared, write_shared, read_all, write_all, barrier, when, while}
-use Rattle.grammar.specs.Spelling.{word_byte, IsName, SpellsExpr, SpellsBody, AnyName}
-use Rattle.grammar.specs.Refusals.{place_of}
+use Rattle.grammar.specs.Spelling.{word_byte, IsName, SpellsBody, AnyName}
 use Rattle.grammar.specs.Runs.{run_of, written}
-use Rattle.grammar.specs.Walk.{key_of, key_at, word_part, word_at, bytes_at, expr_at, and_then}
-use Rattle.grammar.specs.WalkLine.{cell_kind_spec, with_expr_spec, closed, assign_at, assign_by, write_at, by_key, by_word, bare_at, within_line_spec, line_at}
+use Rattle.grammar.specs.Walk.{key_at, word_part, word_at, bytes_at, expr_at, and_then}
+use Rattle.grammar.specs.WalkLine.{cell_kind_spec, with_expr_spec, closed, assign_at, assign_by, write_at, by_key, by_word, bare_at, line_at}
 use Rattle.grammar.specs.Lines.{LineHere}
 use Rattle.grammar.specs.declared.refusals.Refusal.{Refusal}
-use Rattle.grammar.specs.declared.refusals.Refusal.TheVariants.{Shape, Long}
+use Rattle.grammar.specs.declared.refusals.Refusal.TheVariants.{Shape}
 use Rattle.grammar.specs.declared.keywords.Keyword.{Keyword}
 use Rattle.grammar.specs.declared.keywords.Keyword.TheVariants as kw
-use Rattle.grammar.specs.declared.tokens.Token.{Token}
 use Rattle.grammar.specs.declared.tokens.Word.{Word}
 use Rattle.grammar.specs.declared.tokens.Word.TheVariants as word
 use Rattle.grammar.specs.declared.lines.Line.{Line}
 use Rattle.grammar.specs.declared.lines.Line.TheVariants.{Put, Read, Write, Barrier, If, Else, End, While}
 use Rattle.grammar.specs.declared.lines.Lined.{Lined}
 use Rattle.grammar.proofs.Complete.{past}
-use Rattle.grammar.proofs.Sound.{cond_cases, run-splits, run_length, key-sound, WordSays, Worded, word_sound}
+use Rattle.grammar.proofs.Sound.{cond_cases, run-splits, run_length, key-sound, WordSays, word_sound}
 use Rattle.grammar.proofs.Soundline.{kind-cell, line_sound}
 use Rattle.grammar.proofs.Goesonline.{then-fails, closed_is, within-err}
 use Rattle.grammar.proofs.Goesonlines.{Shaped}
-use Rattle.grammar.proofs.Goesonfront.{Just, Both, Front, Got, front_map, got_map, front_none, front_first, front_second, front_then, got_bytes, front_bytes, front_word, front_key, got_word, got-expr, front-expr, shaped-zero, name-a, longer}
+use Rattle.grammar.proofs.Goesonfront.{Just, Both, Front, Got, front_map, got_map, front_none, front_first, front_second, front_then, got_bytes, front_bytes, front_word, front_key, got_word, got-expr, front-expr, shaped-zero}
 
 -- lines, one at least, with what they end
 pub record Bodied (t : List ℕ) : Type 0 where

@@ -1,21 +1,21 @@
 -- What is refused for its shape can go on up to the place where it is refused: words and expressions.
-use Rattle.std.proofs.Common.{◌≡◌, ℕ, zero, suc, ◌+◌, ◌-◌, ◌<◌, ◌≤◌, Bool, true, false, cond, not, ◌&&◌, ◌||◌, eqb, ltb, leb, ◌⊎◌, List, [], ◌∷◌, ◌++◌, length, get_or, take, drop, Some, None, Ok, Err, codes, Option, Result, sym, refl, ap, ◌∙◌, inl, inr, add-zero, arith}
+use Rattle.std.proofs.Common.{◌≡◌, ℕ, zero, suc, ◌+◌, ◌<◌, ◌≤◌, Bool, true, false, cond, not, ◌&&◌, eqb, ltb, List, [], ◌∷◌, ◌++◌, length, get_or, take, drop, Some, Ok, Err, codes, Option, Result, sym, refl, ap, ◌∙◌, inl, inr, add-zero, arith}
 use Rattle.std.proofs.lemmas.List.{append_assoc, append-nil, length-append, take-append-drop, take-take, drop-drop, length-take-le, get_or-take, get_or-drop}
-use Rattle.std.proofs.lemmas.Bool.{and_parts, or_cases, eqb-true, eqb-false, not-true, leb-true, cases_Bool, both_ways}
-use Rattle.lanes.specs.Syntax.{Expr, fixed, var, lane, group, lanes, plus, minus, times, over, rest_of, less, same}
-use Rattle.grammar.specs.Spelling.{letter, digit, word_byte, each_byte, same_bytes, one_of, keywords, decimal, IsName, IsNumber, infix_of, SpellsExpr, AnyName}
+use Rattle.std.proofs.lemmas.Bool.{and_parts, or_cases, eqb-true, eqb-false, not-true, cases_Bool, both_ways}
+use Rattle.lanes.specs.Syntax.{fixed, var, plus, minus, times, over, rest_of, less, same}
+use Rattle.grammar.specs.Spelling.{letter, digit, word_byte, each_byte, same_bytes, one_of, keywords, decimal, IsName, infix_of, SpellsExpr, AnyName}
 use Rattle.grammar.specs.Runs.{run_of, written}
-use Rattle.grammar.specs.Walk.{key_of, key_at, word_part, word_at, word_atom, some_token, bytes_at, atom_at, operator_at, is_operator_spec, is_atom_spec, expr_at, and_then, number_part}
+use Rattle.grammar.specs.Walk.{word_part, word_at, word_atom, bytes_at, atom_at, operator_at, is_operator_spec, is_atom_spec, expr_at, and_then, number_part}
 use Rattle.grammar.specs.declared.refusals.Refusal.{Refusal}
-use Rattle.grammar.specs.declared.refusals.Refusal.TheVariants.{Shape, Unknown, Large, Long}
+use Rattle.grammar.specs.declared.refusals.Refusal.TheVariants.{Shape, Large}
 use Rattle.grammar.specs.declared.keywords.Keyword.{Keyword}
 use Rattle.grammar.specs.declared.keywords.Keyword.TheVariants as kw
 use Rattle.grammar.specs.declared.tokens.Token.{Token}
 use Rattle.grammar.specs.declared.tokens.Word.{Word}
 use Rattle.grammar.specs.declared.tokens.Word.TheVariants as word
-use Rattle.grammar.proofs.Walks.{same_not, run-each, run-le}
-use Rattle.grammar.proofs.Sound.{cond_cases, then-parts, not_err, same_ok, peel, bytes-sound, run_length, WordSays, Worded, word_sound}
-use Rattle.grammar.proofs.Soundexpr.{operator-sound, ReadExpr, expr_sound}
+use Rattle.grammar.proofs.Walks.{same_not, run-each}
+use Rattle.grammar.proofs.Sound.{cond_cases, then-parts, not_err, peel, bytes-sound, run_length, WordSays, word_sound}
+use Rattle.grammar.proofs.Soundexpr.{operator-sound, expr_sound}
 use Rattle.grammar.proofs.Goesonline.{then-fails, word-refused}
 use Rattle.grammar.proofs.Goesonlines.{Shaped}
 

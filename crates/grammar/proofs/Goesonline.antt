@@ -1,15 +1,15 @@
 -- A line is read by the bytes up to where it ends, or is refused.
-use Rattle.std.proofs.Common.{◌≡◌, ℕ, zero, suc, ◌+◌, ◌-◌, ◌<◌, ◌≤◌, Bool, true, false, cond, not, ◌&&◌, ◌||◌, eqb, ltb, leb, ◌⊎◌, List, [], ◌∷◌, ◌++◌, length, get_or, take, drop, Some, None, Ok, Err, codes, Option, Result, sym, refl, ap, ◌∙◌, inl, inr, add-zero, arith}
+use Rattle.std.proofs.Common.{◌≡◌, ℕ, zero, suc, ◌+◌, ◌-◌, ◌<◌, ◌≤◌, Bool, true, false, cond, eqb, ltb, leb, ◌⊎◌, List, length, get_or, take, drop, Some, None, Ok, Err, codes, Option, Result, sym, refl, ap, ◌∙◌, inl, inr, add-zero, arith}
 use Rattle.std.proofs.lemmas.List.{get_or-drop, get_or-take}
 use Rattle.std.proofs.lemmas.Bool.{cases_Bool, leb-true, both_ways}
 use Rattle.std.proofs.lemmas.Bool.Decides.{nat_tests}
-use Rattle.grammar.specs.Spelling.{letter, digit, word_byte}
+use Rattle.grammar.specs.Spelling.{letter, word_byte}
 use Rattle.grammar.specs.Refusals.{place_of}
 use Rattle.grammar.specs.Runs.{run_of, written}
 use Rattle.grammar.specs.Walk.{key_of, key_at, word_part, word_at, word_atom, some_token, bytes_at, atom_at, is_atom_spec, expr_at, and_then}
 use Rattle.grammar.specs.WalkLine.{cell_kind_spec, with_expr_spec, closed, assign_at, assign_by, write_at, by_key, by_word, bare_at, within_line_spec, line_at}
 use Rattle.grammar.specs.declared.refusals.Refusal.{Refusal}
-use Rattle.grammar.specs.declared.refusals.Refusal.TheVariants.{Shape, Unknown, Large, Long}
+use Rattle.grammar.specs.declared.refusals.Refusal.TheVariants.{Shape, Long}
 use Rattle.grammar.specs.declared.keywords.Keyword.{Keyword}
 use Rattle.grammar.specs.declared.keywords.Keyword.TheVariants as kw
 use Rattle.grammar.specs.declared.tokens.Token.{Token}
@@ -19,8 +19,8 @@ use Rattle.grammar.specs.declared.lines.Line.{Line}
 use Rattle.grammar.specs.declared.lines.Line.TheVariants as line
 use Rattle.grammar.specs.declared.lines.Lined.{Lined}
 use Rattle.grammar.proofs.Complete.{digit-not_letter, not-open}
-use Rattle.grammar.proofs.Sound.{cond_cases, then-parts, not_err, same_ok, run_length, key-sound, Worded, word_sound}
-use Rattle.grammar.proofs.Goeson.{Agree, agree_less, agree-drop, run_at, run-least, SameRead, same_end, same_shape, same_then, same_cond, same_from, same_other}
+use Rattle.grammar.proofs.Sound.{cond_cases, then-parts, not_err, same_ok, run_length, key-sound, word_sound}
+use Rattle.grammar.proofs.Goeson.{Agree, agree_less, agree-drop, run_at, run-least, SameRead, same_end, same_shape, same_then, same_cond}
 use Rattle.grammar.proofs.Goesonexpr.{itself, token_end, bytes_same, word_same, expr-same}
 
 -- two steps that went wrong: the first, or the second

@@ -1,14 +1,14 @@
 -- What has the shape of a line is never refused for its shape, and is read as a line of its kind, to its end.
-use Rattle.std.proofs.Common.{◌≡◌, ℕ, zero, suc, ◌+◌, ◌-◌, ◌<◌, ◌≤◌, Bool, true, false, cond, ltb, List, [], ◌∷◌, ◌++◌, length, get_or, take, drop, Some, None, Ok, Err, codes, Option, Result, sym, refl, ap, ◌∙◌, arith}
+use Rattle.std.proofs.Common.{◌≡◌, ℕ, ◌+◌, ◌-◌, ◌≤◌, Bool, true, false, ltb, List, [], ◌∷◌, ◌++◌, length, get_or, drop, Some, None, Ok, Err, codes, Option, Result, sym, refl, ap, ◌∙◌, arith}
 use Rattle.lanes.specs.Syntax.{Expr}
 use Rattle.grammar.specs.Spelling.{letter, word_byte, each_byte, IsName, SpellsExpr, AnyName}
 use Rattle.grammar.specs.Stands.{Apart}
 use Rattle.grammar.specs.Refusals.{place_of}
-use Rattle.grammar.specs.Runs.{run_of, written}
-use Rattle.grammar.specs.Walk.{key_of, key_at, word_at, some_token, bytes_at, expr_at, and_then}
-use Rattle.grammar.specs.WalkLine.{cell_kind_spec, with_expr_spec, closed, assign_at, assign_by, write_at, by_key, by_word, bare_at, within_line_spec, line_at}
+use Rattle.grammar.specs.Runs.{written}
+use Rattle.grammar.specs.Walk.{key_of, key_at, some_token, bytes_at, expr_at, and_then}
+use Rattle.grammar.specs.WalkLine.{cell_kind_spec, with_expr_spec, closed, assign_at, write_at, by_key, by_word, bare_at, within_line_spec, line_at}
 use Rattle.grammar.specs.declared.refusals.Refusal.{Refusal}
-use Rattle.grammar.specs.declared.refusals.Refusal.TheVariants.{Shape, Unknown, Long}
+use Rattle.grammar.specs.declared.refusals.Refusal.TheVariants.{Unknown, Long}
 use Rattle.grammar.specs.declared.keywords.Keyword.{Keyword}
 use Rattle.grammar.specs.declared.keywords.Keyword.TheVariants as kw
 use Rattle.grammar.specs.declared.lines.Line.{Line}

@@ -1,25 +1,21 @@
 -- What has the shape of an expression or a line is never refused for its shape.
-use Rattle.std.proofs.Common.{◌≡◌, ℕ, zero, suc, ◌+◌, ◌-◌, ◌<◌, ◌≤◌, Bool, true, false, cond, not, ◌&&◌, ◌||◌, eqb, ltb, leb, ◌⊎◌, List, [], ◌∷◌, ◌++◌, length, get_or, take, drop, Some, None, Ok, Err, codes, Option, Result, sym, refl, ap, ◌∙◌, inl, inr, arith}
+use Rattle.std.proofs.Common.{◌≡◌, ℕ, zero, suc, ◌+◌, ◌≤◌, Bool, true, false, cond, List, [], ◌∷◌, ◌++◌, length, get_or, drop, Some, None, Ok, Err, Option, Result, sym, refl, ap, ◌∙◌, arith}
 use Rattle.std.proofs.lemmas.List.{append_assoc, length-append}
 use Rattle.std.proofs.lemmas.Bool.Decides.{nat_tests}
 use Rattle.lanes.specs.Syntax.{Expr, fixed, var, lane, group, lanes, plus, minus, times, over, rest_of, less, same}
 use Rattle.grammar.specs.Spelling.{letter, digit, word_byte, each_byte, IsName, IsNumber, infix_of, SpellsExpr, AnyName}
 use Rattle.grammar.specs.Stands.{Apart}
-use Rattle.grammar.specs.Refusals.{place_of}
-use Rattle.grammar.specs.Runs.{run_of, written}
-use Rattle.grammar.specs.Walk.{key_of, key_at, word_part, word_at, word_atom, some_token, bytes_at, atom_at, operator_at, is_operator_spec, is_atom_spec, expr_at, and_then, number_part}
+use Rattle.grammar.specs.Runs.{written}
+use Rattle.grammar.specs.Walk.{key_of, word_atom, some_token, atom_at, is_operator_spec, is_atom_spec, expr_at, and_then}
 use Rattle.grammar.specs.declared.refusals.Refusal.{Refusal}
 use Rattle.grammar.specs.declared.refusals.Refusal.TheVariants.{Shape, Unknown, Large, Long}
 use Rattle.grammar.specs.declared.keywords.Keyword.{Keyword}
 use Rattle.grammar.specs.declared.keywords.Keyword.TheVariants as kw
-use Rattle.grammar.specs.declared.tokens.Token.{Token}
-use Rattle.grammar.specs.declared.tokens.Word.{Word}
-use Rattle.grammar.specs.declared.tokens.Word.TheVariants as word
 use Rattle.grammar.proofs.Walks.{key-written}
 use Rattle.grammar.proofs.Scanned.{byte_at}
-use Rattle.grammar.proofs.Complete.{first_byte, past, past-byte, bytes-done, run-here, part-here, key-free, byte_of, word-done, digit-not_letter, not-open}
+use Rattle.grammar.proofs.Complete.{first_byte, past, past-byte, bytes-done, run-here, key-free, byte_of, word-done, digit-not_letter, not-open}
 use Rattle.grammar.proofs.Spelled.{operator-done}
-use Rattle.grammar.proofs.Sound.{cond_cases, not_err, same_ok}
+use Rattle.grammar.proofs.Sound.{not_err, same_ok}
 
 -- What is read, if it is read, is P; and it is not refused for its shape.
 pub record Good {X : Type 0} (r : Result X Refusal) (P : X → Type 0) : Type 0 where

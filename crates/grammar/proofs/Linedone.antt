@@ -1,25 +1,19 @@
 -- A line that stands at a byte is read there, as that line.
-use Rattle.std.proofs.Common.{◌≡◌, ℕ, zero, suc, ◌+◌, ◌-◌, ◌*◌, ◌<◌, ◌≤◌, max, Bool, true, false, cond, not, ◌&&◌, ◌||◌, eqb, ltb, List, [], ◌∷◌, ◌++◌, length, get_or, take, drop, Some, None, Ok, Err, codes, Option, Result, sym, refl, ap, ◌∙◌, arith}
-use Rattle.std.proofs.lemmas.List.{append_assoc, length-append}
-use Rattle.std.proofs.lemmas.Bool.{and_parts, le-ltb, ne_eqb, eqb-true}
+use Rattle.std.proofs.Common.{◌≡◌, ℕ, suc, ◌≤◌, max, Bool, true, false, eqb, List, [], ◌∷◌, ◌++◌, length, drop, None, codes, sym, refl, ap, ◌∙◌, arith}
+use Rattle.std.proofs.lemmas.List.{length-append}
+use Rattle.std.proofs.lemmas.Bool.{and_parts, ne_eqb}
 use Rattle.std.proofs.lemmas.Bool.Decides.{nat_tests}
 use Rattle.lanes.specs.Syntax.{Expr, fixed, var, lane, group, lanes, plus, minus, times, over, rest_of, less, same}
-use Rattle.grammar.specs.Spelling.{letter, digit, word_byte, each_byte, same_bytes, IsName, IsNumber, infix_of, SpellsExpr}
+use Rattle.grammar.specs.Spelling.{digit, word_byte, each_byte, same_bytes, IsName, IsNumber, infix_of, SpellsExpr}
 use Rattle.grammar.specs.Stands.{Apart}
-use Rattle.grammar.specs.Runs.{run_of, written}
-use Rattle.grammar.specs.Walk.{key_of, key_at, word_at, word_part, some_token, bytes_at, expr_at, and_then}
-use Rattle.grammar.specs.WalkLine.{cell_kind_spec, with_expr_spec, closed, assign_at, assign_by, write_at, by_key, by_word, bare_at, within_line_spec, line_at}
-use Rattle.grammar.specs.Lines.{SomeExpr, LineHere}
-use Rattle.grammar.specs.declared.keywords.Keyword.{Keyword}
+use Rattle.grammar.specs.Runs.{run_of}
+use Rattle.grammar.specs.Walk.{key_of, key_at}
+use Rattle.grammar.specs.WalkLine.{cell_kind_spec}
 use Rattle.grammar.specs.declared.keywords.Keyword.TheVariants as kw
-use Rattle.grammar.specs.declared.lines.Line.{Line}
-use Rattle.grammar.specs.declared.lines.Line.TheVariants.{Put, Read, Write, Barrier, If, Else, End, While}
-use Rattle.grammar.specs.declared.lines.Lined.{Lined}
 use Rattle.grammar.proofs.Runs.{run-stop}
 use Rattle.grammar.proofs.Walks.{key-written}
-use Rattle.grammar.proofs.Scanned.{byte_at}
-use Rattle.grammar.proofs.Complete.{first_byte, past, past-byte, bytes-done, run-here, part-here, key-free, byte_of, word-done, key-done}
-use Rattle.grammar.proofs.Spelled.{brackets, ReadsExpr, expr-done}
+use Rattle.grammar.proofs.Complete.{part-here, key-free}
+use Rattle.grammar.proofs.Spelled.{brackets}
 
 -- fewer brackets than bytes
 module _ (N : ℕ → List ℕ → Type 0) where

@@ -1,11 +1,11 @@
 -- A line that stands at a byte is read there, as that line: one kind of line after the other.
-use Rattle.std.proofs.Common.{◌≡◌, ℕ, zero, suc, ◌+◌, ◌-◌, ◌<◌, ◌≤◌, Bool, true, false, cond, List, [], ◌∷◌, ◌++◌, length, get_or, take, drop, Some, None, Ok, Err, codes, Option, Result, sym, refl, ap, ◌∙◌, arith}
+use Rattle.std.proofs.Common.{◌≡◌, ℕ, ◌+◌, ◌-◌, ◌≤◌, Bool, true, false, List, [], ◌∷◌, ◌++◌, length, get_or, drop, Some, None, Ok, codes, Option, Result, refl, ap, ◌∙◌, arith}
 use Rattle.std.proofs.lemmas.Bool.{le-ltb}
-use Rattle.grammar.specs.Spelling.{letter, word_byte, each_byte, IsName, SpellsExpr}
+use Rattle.grammar.specs.Spelling.{letter, word_byte, each_byte, IsName}
 use Rattle.grammar.specs.Stands.{Apart}
-use Rattle.grammar.specs.Runs.{run_of, written}
-use Rattle.grammar.specs.Walk.{key_of, key_at, word_at, some_token, bytes_at, expr_at, and_then}
-use Rattle.grammar.specs.WalkLine.{cell_kind_spec, with_expr_spec, closed, assign_at, assign_by, write_at, by_key, by_word, bare_at, within_line_spec, line_at}
+use Rattle.grammar.specs.Runs.{written}
+use Rattle.grammar.specs.Walk.{key_of, key_at, bytes_at, and_then}
+use Rattle.grammar.specs.WalkLine.{cell_kind_spec, with_expr_spec, closed, assign_at, write_at, by_key, bare_at, line_at}
 use Rattle.grammar.specs.Lines.{SomeExpr, LineHere}
 use Rattle.grammar.specs.declared.refusals.Refusal.{Refusal}
 use Rattle.grammar.specs.declared.keywords.Keyword.{Keyword}
@@ -14,8 +14,8 @@ use Rattle.grammar.specs.declared.lines.Line.{Line}
 use Rattle.grammar.specs.declared.lines.Line.TheVariants.{Put, Read, Write, Barrier, If, Else, End, While}
 use Rattle.grammar.specs.declared.lines.Lined.{Lined}
 use Rattle.grammar.proofs.Walks.{key-written}
-use Rattle.grammar.proofs.Complete.{first_byte, past, past-byte, bytes-done, run-here, part-here, key-free, word-done, key-done}
-use Rattle.grammar.proofs.Spelled.{brackets, ReadsExpr, expr-done}
+use Rattle.grammar.proofs.Complete.{past, past-byte, bytes-done, run-here, part-here, key-free, word-done}
+use Rattle.grammar.proofs.Spelled.{ReadsExpr, expr-done}
 use Rattle.grammar.proofs.Linedone.{brackets-few, no_cell}
 
 abbrev lined : Line → ℕ → Result Lined Refusal

@@ -1,7 +1,5 @@
 -- Each way through a line is what specs/WalkLine says.
-use Rattle.std.proofs.Common.{◌≡◌, ℕ, zero, suc, ◌+◌, ◌-◌, ◌<◌, ◌≤◌, Bool, true, false, cond, List, [], ◌∷◌, get_or, drop, Some, None, Ok, Err, codes, Option, Result, sym, refl, ap, ◌∙◌}
-use Rattle.grammar.specs.Spelling.{word_byte}
-use Rattle.grammar.specs.Runs.{run_of}
+use Rattle.std.proofs.Common.{◌≡◌, ℕ, Bool, true, false, List, Some, Ok, Err, codes, Option, Result, sym, refl, ap, ◌∙◌}
 use Rattle.grammar.specs.Walk.{bytes_at, expr_at, word_at, key_at, and_then}
 use Rattle.grammar.specs.WalkLine.{cell_kind_spec, with_expr_spec, closed, assign_at, assign_by, write_at, by_key, by_word, bare_at, within_line_spec, line_at}
 use Rattle.grammar.specs.declared.refusals.Refusal.{Refusal}

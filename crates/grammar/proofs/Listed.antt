@@ -1,5 +1,5 @@
 -- What a word of the language tells of its length and bytes.
-use Rattle.std.proofs.Common.{◌≡◌, ℕ, Bool, true, false, ◌⊎◌, List, length, get_or, sym, refl, ap, inl, inr}
+use Rattle.std.proofs.Common.{◌≡◌, ℕ, ◌⊎◌, List, length, get_or, ap, inl, inr}
 use Rattle.grammar.specs.declared.keywords.Keyword.{Keyword}
 use Rattle.grammar.specs.declared.keywords.Keyword.TheVariants.{Own, Cells, Cell, Field, Barrier, If, Else, End, While, Lane, Group, Lanes}
 use Rattle.grammar.specs.Runs.{written}

@@ -1,12 +1,11 @@
 -- Walking through the line that names own numbers.
-use Rattle.std.proofs.Common.{◌≡◌, ℕ, zero, suc, ◌+◌, ◌-◌, ◌<◌, ◌≤◌, Bool, true, false, ◌≢◌, ◌⊎◌, List, [], ◌∷◌, ◌++◌, length, get_or, take, drop, Some, None, codes, sym, refl, ap, ◌∙◌, inl, inr, append_assoc, add-zero, arith}
+use Rattle.std.proofs.Common.{◌≡◌, ℕ, ◌+◌, ◌-◌, ◌<◌, ◌≤◌, ◌≢◌, List, [], ◌∷◌, ◌++◌, length, get_or, take, drop, codes, sym, refl, ap, ◌∙◌, inl, inr, append_assoc, add-zero, arith}
 use Rattle.std.specs.List.{between, flat_map}
 use Rattle.std.proofs.lemmas.List.{drop_more, drop_all, drop_at, drop-drop, take_at, get_or-drop}
 use Rattle.std.proofs.lemmas.Bool.{cases_lt, cases_eq}
-use Rattle.grammar.specs.Spelling.{OwnLine, IsName, word_byte}
 use Rattle.grammar.specs.Stands.{Apart}
 use Rattle.grammar.specs.Words.{WordEnd}
-use Rattle.grammar.specs.Names.{NamesIn, FirstAt, PlaceOf}
+use Rattle.grammar.specs.Names.{NamesIn, FirstAt}
 use Rattle.grammar.proofs.Scanned.{word-ends}
 
 -- Names, each behind a space.

@@ -1,7 +1,7 @@
 -- Names and their places.
-use Rattle.std.proofs.Common.{◌≡◌, ℕ, zero, suc, ◌+◌, ◌<◌, ◌≤◌, Bool, true, false, cond, ◌⊎◌, List, [], ◌∷◌, ◌++◌, length, get_or, Some, None, Option, sym, refl, ap, ◌∙◌, inl, inr, arith}
+use Rattle.std.proofs.Common.{◌≡◌, ℕ, suc, List, [], ◌∷◌, Some, None, Option, sym, refl, ◌∙◌, inl, inr, arith}
 use Rattle.grammar.specs.Spelling.{same_bytes, Named, IsName}
-use Rattle.grammar.specs.Names.{PlaceOf, FirstAt, NamesIn}
+use Rattle.grammar.specs.Names.{NamesIn}
 use Rattle.grammar.specs.Taken.{Distinct}
 use Rattle.grammar.specs.Walk.{place_in, one_more}
 use Rattle.grammar.proofs.Walks.{same-decides, place_is}

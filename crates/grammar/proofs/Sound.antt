@@ -1,23 +1,19 @@
 -- What is read as an expression spells one.
-use Rattle.std.proofs.Common.{◌≡◌, ℕ, zero, suc, ◌+◌, ◌-◌, ◌*◌, ◌<◌, ◌≤◌, Bool, true, false, cond, not, ◌&&◌, ◌||◌, eqb, ltb, leb, ◌≢◌, ◌⊎◌, List, [], ◌∷◌, ◌++◌, length, get_or, take, drop, Some, None, Ok, Err, codes, Option, Result, sym, refl, ap, ◌∙◌, inl, inr, add-zero, arith}
-use Rattle.std.proofs.lemmas.List.{append_assoc, take-append-drop, drop-drop, drop_more, get_or_past, get_or-drop, length-take-le, get_or-take}
-use Rattle.std.proofs.lemmas.Bool.{and_parts, or_cases, cases_Bool, cases_lt, ltb-true, leb-false, eqb-true, eqb-false, not-true, cond_both}
+use Rattle.std.proofs.Common.{◌≡◌, ℕ, ◌+◌, ◌≤◌, Bool, true, false, cond, not, ◌&&◌, eqb, leb, ◌⊎◌, List, [], ◌∷◌, ◌++◌, length, get_or, take, drop, Some, None, Ok, Err, codes, Option, Result, sym, refl, ap, ◌∙◌, inl, inr, add-zero, arith}
+use Rattle.std.proofs.lemmas.List.{take-append-drop, drop-drop, drop_more, get_or_past, get_or-drop, length-take-le, get_or-take}
+use Rattle.std.proofs.lemmas.Bool.{and_parts, cases_lt, leb-false, eqb-true, eqb-false, not-true, cond_both}
 use Rattle.std.proofs.lemmas.Bool.Decides.{nat_tests}
-use Rattle.lanes.specs.Syntax.{Expr, fixed, var, lane, group, lanes, plus, minus, times, over, rest_of, less, same}
-use Rattle.lanes.specs.Told.{ExprFits}
-use Rattle.grammar.specs.Spelling.{letter, digit, word_byte, each_byte, same_bytes, decimal, IsNumber, infix_of, SpellsExpr}
-use Rattle.grammar.specs.Stands.{Apart}
+use Rattle.grammar.specs.Spelling.{letter, word_byte, same_bytes}
 use Rattle.grammar.specs.Runs.{run_of, written}
-use Rattle.grammar.specs.Walk.{key_of, key_at, word_part, word_at, word_atom, own_token, some_token, bytes_at, atom_at, operator_at, is_operator_spec, is_atom_spec, expr_at, and_then, number_part}
+use Rattle.grammar.specs.Walk.{key_of, key_at, word_part, word_at, some_token, bytes_at, and_then}
 use Rattle.grammar.specs.declared.refusals.Refusal.{Refusal}
-use Rattle.grammar.specs.declared.refusals.Refusal.TheVariants.{Shape, Unknown, Large, Long}
+use Rattle.grammar.specs.declared.refusals.Refusal.TheVariants.{Shape, Unknown}
 use Rattle.grammar.specs.declared.keywords.Keyword.{Keyword}
-use Rattle.grammar.specs.declared.keywords.Keyword.TheVariants as kw
 use Rattle.grammar.specs.declared.tokens.Token.{Token}
 use Rattle.grammar.specs.declared.tokens.Word.{Word}
 use Rattle.grammar.specs.declared.tokens.Word.TheVariants as word
 use Rattle.grammar.proofs.Runs.{run_step}
-use Rattle.grammar.proofs.Walks.{same-decides, run-each, run-le, run-apart}
+use Rattle.grammar.proofs.Walks.{same-decides, run-le}
 
 -- a test that was passed or not
 pub cond_cases : {A : Type 0} (b : Bool) (x y v : A) → cond b x y ≡ v → ((b ≡ true) × (x ≡ v)) ⊎ ((b ≡ false) × (y ≡ v))

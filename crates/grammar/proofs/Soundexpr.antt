@@ -1,22 +1,20 @@
 -- What is read as an expression spells one, whose numbers are below 2^32.
-use Rattle.std.proofs.Common.{◌≡◌, ℕ, zero, suc, ◌+◌, ◌-◌, ◌*◌, ◌<◌, ◌≤◌, Bool, true, false, cond, not, ◌&&◌, ◌||◌, eqb, ltb, leb, ◌⊎◌, List, [], ◌∷◌, ◌++◌, length, get_or, take, drop, Some, None, Ok, Err, Option, sym, refl, ap, ◌∙◌, inl, inr, arith}
+use Rattle.std.proofs.Common.{◌≡◌, ℕ, zero, suc, ◌+◌, ◌<◌, ◌≤◌, Bool, true, false, eqb, ltb, List, [], ◌∷◌, ◌++◌, length, get_or, take, drop, Some, Ok, Option, sym, refl, ap, ◌∙◌, inl, inr, arith}
 use Rattle.std.proofs.lemmas.List.{append_assoc}
 use Rattle.std.proofs.lemmas.Bool.{or_cases, ltb-true, eqb-true}
-use Rattle.lanes.specs.Syntax.{Expr, fixed, var, lane, group, lanes, plus, minus, times, over, rest_of, less, same}
+use Rattle.lanes.specs.Syntax.{fixed, var, lane, group, lanes, plus, minus, times, over, rest_of, less, same}
 use Rattle.lanes.specs.Told.{ExprFits}
-use Rattle.grammar.specs.Spelling.{letter, digit, word_byte, decimal, IsNumber, infix_of, SpellsExpr}
+use Rattle.grammar.specs.Spelling.{digit, infix_of, SpellsExpr}
 use Rattle.grammar.specs.Runs.{run_of, written}
-use Rattle.grammar.specs.Walk.{key_of, word_part, word_at, word_atom, bytes_at, atom_at, operator_at, is_operator_spec, is_atom_spec, expr_at, and_then, number_part}
+use Rattle.grammar.specs.Walk.{word_part, word_at, word_atom, bytes_at, atom_at, operator_at, is_operator_spec, is_atom_spec, expr_at, number_part}
 use Rattle.grammar.specs.Lines.{SomeExpr}
-use Rattle.grammar.specs.declared.refusals.Refusal.{Refusal}
 use Rattle.grammar.specs.declared.refusals.Refusal.TheVariants.{Shape, Large, Long}
 use Rattle.grammar.specs.declared.keywords.Keyword.{Keyword}
 use Rattle.grammar.specs.declared.keywords.Keyword.TheVariants.{Own, Cells, Cell, Field, Barrier, If, Else, End, While, Lane, Group, Lanes}
-use Rattle.grammar.specs.declared.tokens.Token.{Token}
 use Rattle.grammar.specs.declared.tokens.Word.{Word}
 use Rattle.grammar.specs.declared.tokens.Word.TheVariants as word
 use Rattle.grammar.proofs.Walks.{run-each}
-use Rattle.grammar.proofs.Sound.{cond_cases, then-parts, not_err, same_ok, peel, bytes-sound, run-splits, run_length, run-some, WordSays, Worded, word_sound}
+use Rattle.grammar.proofs.Sound.{cond_cases, then-parts, not_err, same_ok, peel, bytes-sound, run-splits, run_length, run-some, WordSays, word_sound}
 
 pub operator-sound : (text : List ℕ) (i j : ℕ) → operator_at text i ≡ Ok j → (op : ℕ) × (is_operator_spec op ≡ true) × (drop i text ≡ 32 ∷ op ∷ 32 ∷ drop j text)
 unfolding operator_at

@@ -1,11 +1,10 @@
 -- What is read as a line is that line.
-use Rattle.std.proofs.Common.{◌≡◌, ℕ, zero, suc, ◌+◌, ◌-◌, ◌<◌, ◌≤◌, Bool, true, false, cond, ltb, ◌⊎◌, List, [], ◌∷◌, ◌++◌, length, get_or, take, drop, IfOk, Some, None, Ok, Err, codes, Option, Result, sym, refl, ap, ◌∙◌, inl, inr, arith}
+use Rattle.std.proofs.Common.{◌≡◌, ℕ, ◌+◌, ◌-◌, ◌<◌, ◌≤◌, Bool, true, false, ltb, ◌⊎◌, List, ◌∷◌, ◌++◌, length, drop, IfOk, Some, None, Ok, Err, codes, Option, Result, sym, refl, ap, ◌∙◌, inl, inr, arith}
 use Rattle.std.proofs.lemmas.Bool.{ltb-false}
-use Rattle.std.proofs.lemmas.List.{append_assoc}
-use Rattle.grammar.specs.Spelling.{word_byte, SpellsExpr}
+use Rattle.grammar.specs.Spelling.{word_byte}
 use Rattle.grammar.specs.Refusals.{place_of}
 use Rattle.grammar.specs.Runs.{run_of, written}
-use Rattle.grammar.specs.Walk.{key_of, key_at, word_at, word_part, bytes_at, expr_at, and_then}
+use Rattle.grammar.specs.Walk.{key_at, word_at, word_part, bytes_at, expr_at, and_then}
 use Rattle.grammar.specs.WalkLine.{cell_kind_spec, with_expr_spec, closed, assign_at, assign_by, write_at, by_key, by_word, bare_at, within_line_spec, line_at}
 use Rattle.grammar.specs.Lines.{SomeExpr, LineHere}
 use Rattle.grammar.specs.declared.refusals.Refusal.{Refusal}
@@ -17,8 +16,8 @@ use Rattle.grammar.specs.declared.tokens.Word.TheVariants as word
 use Rattle.grammar.specs.declared.lines.Line.{Line}
 use Rattle.grammar.specs.declared.lines.Line.TheVariants.{Put, Read, Write, Barrier, If, Else, End, While}
 use Rattle.grammar.specs.declared.lines.Lined.{Lined}
-use Rattle.grammar.proofs.Sound.{cond_cases, then-parts, not_err, same_ok, bytes-sound, run-splits, run_length, key-sound, WordSays, Worded, word_sound}
-use Rattle.grammar.proofs.Soundexpr.{ReadExpr, expr_sound}
+use Rattle.grammar.proofs.Sound.{cond_cases, then-parts, not_err, same_ok, bytes-sound, run-splits, run_length, key-sound, WordSays, word_sound}
+use Rattle.grammar.proofs.Soundexpr.{expr_sound}
 
 -- only the two words have a kind
 pub kind-cell : (k : Option Keyword) (f : Bool) → cell_kind_spec k ≡ Some f → ((k ≡ Some kw.Cell) × (f ≡ false)) ⊎ ((k ≡ Some kw.Field) × (f ≡ true))

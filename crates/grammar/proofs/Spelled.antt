@@ -1,14 +1,14 @@
 -- An expression that is spelled at a byte is read there, to its end.
-use Rattle.std.proofs.Common.{◌≡◌, ℕ, zero, suc, ◌+◌, ◌-◌, ◌*◌, ◌<◌, ◌≤◌, max, Bool, true, false, cond, not, ◌&&◌, ◌||◌, eqb, ltb, List, [], ◌∷◌, ◌++◌, length, get_or, take, drop, Some, None, Ok, Err, codes, Option, Result, sym, refl, ap, ◌∙◌, arith}
+use Rattle.std.proofs.Common.{◌≡◌, ℕ, zero, suc, ◌+◌, ◌-◌, ◌<◌, ◌≤◌, max, true, false, List, [], ◌∷◌, ◌++◌, length, get_or, drop, Some, None, Ok, codes, Option, refl, ap, ◌∙◌, arith}
 use Rattle.std.proofs.lemmas.List.{append_assoc, length-append}
-use Rattle.std.proofs.lemmas.Bool.{and_parts, or_parts, lt-ltb, eq-eqb, ne_eqb}
+use Rattle.std.proofs.lemmas.Bool.{lt-ltb}
 use Rattle.std.proofs.lemmas.Bool.Decides.{nat_tests}
 use Rattle.lanes.specs.Syntax.{Expr, fixed, var, lane, group, lanes, plus, minus, times, over, rest_of, less, same}
 use Rattle.lanes.specs.Told.{ExprFits}
 use Rattle.grammar.specs.Spelling.{letter, digit, word_byte, each_byte, decimal, IsName, IsNumber, infix_of, SpellsExpr}
 use Rattle.grammar.specs.Stands.{Apart}
-use Rattle.grammar.specs.Runs.{run_of, written}
-use Rattle.grammar.specs.Walk.{key_of, word_at, word_atom, some_token, bytes_at, atom_at, operator_at, is_operator_spec, is_atom_spec, expr_at, and_then, number_part}
+use Rattle.grammar.specs.Runs.{written}
+use Rattle.grammar.specs.Walk.{key_of, word_atom, some_token, atom_at, operator_at, is_operator_spec, is_atom_spec, expr_at, and_then, number_part}
 use Rattle.grammar.specs.declared.keywords.Keyword.{Keyword}
 use Rattle.grammar.specs.declared.keywords.Keyword.TheVariants.{Lane, Group, Lanes}
 use Rattle.grammar.proofs.Walks.{key-written}

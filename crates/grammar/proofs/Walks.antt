@@ -1,9 +1,9 @@
 -- What the code finds at an index is what the functions of specs/Walk say.
-use Rattle.std.proofs.Common.{◌≡◌, ℕ, zero, suc, ◌+◌, ◌-◌, ◌<◌, ◌≤◌, Bool, true, false, cond, ◌&&◌, ◌≢◌, ◌⊎◌, List, [], ◌∷◌, ◌++◌, length, get_or, take, drop, Some, None, Ok, Err, codes, Decides, Option, sym, refl, ap, ◌∙◌, inl, inr, arith, rules, MatchOption}
-use Rattle.std.proofs.lemmas.List.{take-append-drop, length-take-le, length-drop, drop_all}
+use Rattle.std.proofs.Common.{◌≡◌, ℕ, zero, suc, ◌+◌, ◌-◌, ◌<◌, ◌≤◌, Bool, true, false, cond, ◌⊎◌, List, [], ◌∷◌, length, get_or, take, drop, Some, None, Ok, Err, codes, Decides, Option, sym, refl, ap, ◌∙◌, inl, inr, arith, rules, MatchOption}
+use Rattle.std.proofs.lemmas.List.{take-append-drop, length-take-le, drop_all}
 use Rattle.std.proofs.lemmas.Slice.Eq.{compares_Decides}
-use Rattle.std.proofs.lemmas.Bool.Decides.{not_from_Decides, nat_tests}
-use Rattle.std.proofs.lemmas.Bool.{both_ways, le-leb, lt-leb, eq-eqb, ne_eqb}
+use Rattle.std.proofs.lemmas.Bool.Decides.{nat_tests}
+use Rattle.std.proofs.lemmas.Bool.{le-leb, lt-leb, eq-eqb, ne_eqb}
 use Rattle.grammar.specs.Spelling.{letter, word_byte, each_byte, same_bytes}
 use Rattle.grammar.specs.Runs.{run_of, written}
 use Rattle.grammar.specs.Words.{WordEnd}

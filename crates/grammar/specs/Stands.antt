@@ -1,5 +1,5 @@
 -- Where an expression stands in a text.
-use Rattle.std.specs.Prelude.{◌≡◌, ℕ, false, List, ◌++◌, get_or, drop, slice_index}
+use Rattle.std.specs.Prelude.{◌≡◌, ℕ, false, List, ◌++◌, drop, slice_index}
 use Rattle.lanes.specs.Syntax.{Expr}
 use Rattle.grammar.specs.Spelling.{word_byte, SpellsExpr}
 

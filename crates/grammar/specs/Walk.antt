@@ -1,5 +1,5 @@
 -- Reading bytes of a text from an index on, step by step: what the code does, as functions.
-use Rattle.std.specs.Prelude.{ℕ, zero, suc, ◌+◌, ◌-◌, min, Bool, true, false, cond, not, ◌&&◌, ◌||◌, List, [], ◌∷◌, ◌++◌, length, take, drop, Some, None, Ok, Err, codes, Option, Result, ◌==◌, nat_le, nat_lt, slice_index}
+use Rattle.std.specs.Prelude.{ℕ, zero, suc, ◌+◌, Bool, true, false, cond, not, ◌&&◌, ◌||◌, List, [], ◌∷◌, take, drop, Some, None, Ok, Err, codes, Option, Result, ◌==◌, nat_le, nat_lt, slice_index}
 use Rattle.grammar.specs.Spelling.{letter, digit, word_byte, same_bytes, decimal}
 use Rattle.grammar.specs.Runs.{run_of}
 use Rattle.grammar.specs.declared.refusals.Refusal.{Refusal}

@@ -1,5 +1,5 @@
 -- Reading one line from an index on, step by step: what the code does, as functions.
-use Rattle.std.specs.Prelude.{ℕ, zero, suc, ◌+◌, ◌-◌, Bool, true, false, cond, ◌&&◌, List, [], ◌∷◌, drop, Some, None, Ok, Err, codes, Option, Result, nat_lt}
+use Rattle.std.specs.Prelude.{ℕ, ◌+◌, ◌-◌, Bool, true, false, cond, List, drop, Some, None, Ok, Err, codes, Option, Result, nat_lt}
 use Rattle.grammar.specs.Spelling.{word_byte}
 use Rattle.grammar.specs.Runs.{run_of}
 use Rattle.grammar.specs.Refusals.{place_of}

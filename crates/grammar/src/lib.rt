@@ -1,4 +1,6 @@
 // Words of the language and lines of a text.
+#![tactic(auto)]
+
 pub mod bytes;
 pub mod exprs;
 pub mod keywords;

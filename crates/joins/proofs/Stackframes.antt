@@ -1,9 +1,9 @@
 -- What of the lent words a row's stack is made of, and that nothing else changes.
-use Rattle.std.proofs.Common.{◌≡◌, ℕ, zero, suc, ◌+◌, ◌-◌, ◌*◌, ◌/◌, ◌%◌, ◌<◌, ◌≤◌, min, ◌⊎◌, List, [], ◌∷◌, sym, refl, ap, ◌∙◌, ap₂, inl, inr, arith}
+use Rattle.std.proofs.Common.{◌≡◌, ℕ, ◌+◌, ◌-◌, ◌*◌, ◌/◌, ◌%◌, ◌<◌, ◌≤◌, min, List, refl, ap, ◌∙◌, ap₂, arith}
 use native.Mathlib.Nat.{min-le_left, min-le_right, min-eq_left}
 use Rattle.store.specs.declared.Sizes.{Sizes}
 use Rattle.store.specs.Layout.{slots}
-use Rattle.store.specs.Lent.{slot_of, line_at, phase_of_spec, grid_of, Lined, Aside}
+use Rattle.store.specs.Lent.{slot_of, line_at, phase_of_spec, Aside}
 use Rattle.joins.specs.declared.Join.{Join}
 use Rattle.joins.specs.Stack.{RowAt, width_of, join_at, depth_of, down_from, stack_of, Stacked}
 use Rattle.joins.proofs.Stacklists.{down-same}

@@ -1,9 +1,8 @@
 -- A join put, and how many there are: what the stack is then.
-use Rattle.std.proofs.Common.{◌≡◌, ℕ, zero, suc, ◌+◌, ◌-◌, ◌*◌, ◌/◌, ◌%◌, ◌<◌, ◌≤◌, ◌⊎◌, List, [], ◌∷◌, ◌++◌, length, sym, refl, ap, ◌∙◌, inl, inr, add-one, arith}
+use Rattle.std.proofs.Common.{◌≡◌, ℕ, suc, ◌+◌, ◌-◌, ◌*◌, ◌/◌, ◌%◌, ◌<◌, ◌≤◌, List, [], ◌∷◌, ◌++◌, length, sym, refl, ap, ◌∙◌, inl, inr, add-one, arith}
 use Rattle.std.proofs.lemmas.Bool.{cases_eq}
 use Rattle.masks.specs.Masks.{lacking}
 use Rattle.store.specs.declared.Sizes.{Sizes}
-use Rattle.store.specs.Layout.{slots}
 use Rattle.store.specs.Lent.{slot_of, Aside}
 use Rattle.joins.specs.declared.Join.{Join}
 use Rattle.joins.specs.Stack.{RowAt, width_of, join_at, depth_of, down_from, stack_of, lost, leaves, Stacked}

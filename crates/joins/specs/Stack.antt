@@ -4,7 +4,7 @@
 --   slot 6 of lane start: how many joins are on the stack
 --   join k: lane start + k / 16, slots 16 + k % 16 (branch), 32 + k % 16 (line) and 48 + k % 16 (lanes)
 -- So a row of w lanes has room for 16 * w joins.
-use Rattle.std.specs.Prelude.{◌≡◌, ℕ, zero, suc, ◌+◌, ◌-◌, ◌*◌, ◌/◌, ◌%◌, ◌<◌, ◌≤◌, min, Bool, cond, List, [], ◌∷◌, length, ◌==◌, ◌≢◌}
+use Rattle.std.specs.Prelude.{◌≡◌, ℕ, zero, suc, ◌+◌, ◌-◌, ◌*◌, ◌/◌, ◌%◌, ◌<◌, ◌≤◌, min, cond, List, [], ◌∷◌, length, ◌==◌, ◌≢◌}
 use Rattle.lanes.specs.Syntax.{Body}
 use Rattle.masks.specs.Masks.{lacking}
 use Rattle.store.specs.declared.Sizes.{Sizes}

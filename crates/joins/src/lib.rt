@@ -1,4 +1,6 @@
 // The joins of a row of lanes: where lanes that a branch has parted come together again.
+#![tactic(auto)]
+
 mod row;
 mod stack;
 mod story;

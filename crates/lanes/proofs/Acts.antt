@@ -1,7 +1,7 @@
 -- Acts performed on memory: what a store keeps, and two acts in either order.
-use Rattle.std.proofs.Common.{◌≡◌, ℕ, zero, suc, Bool, true, false, List, [], ◌∷◌, length, get_or, set, sym, refl, ap, arith, length-set, get_or-set_other}
+use Rattle.std.proofs.Common.{◌≡◌, ℕ, zero, suc, List, [], length, get_or, set, sym, refl, ap, arith, length-set, get_or-set_other}
 use lib.Seq.{set_comm}
-use Rattle.lanes.specs.Step.{Lane, Memory, cells, with_cells, store, Act, quiet, reads, writes, act, lane_of, after, touched}
+use Rattle.lanes.specs.Step.{Memory, cells, store, Act, quiet, reads, writes, lane_of, after}
 use Rattle.lanes.proofs.Places.{at-keeps, at-comm}
 
 -- memory of the same lengths

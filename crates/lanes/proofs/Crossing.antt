@@ -1,14 +1,13 @@
 -- Two turns of different lanes: each finds the same before and after the other. If their marks don't race, either order comes to the same.
-use Rattle.std.proofs.Common.{◌≡◌, ℕ, suc, Bool, true, false, not, ◌&&◌, ◌||◌, ltb, ◌≢◌, ◌⊎◌, List, [], ◌∷◌, length, get_or, set, sym, refl, ap, inl, inr, arith, get_or-set_other}
+use Rattle.std.proofs.Common.{◌≡◌, ℕ, suc, true, false, ◌||◌, ltb, ◌⊎◌, List, [], ◌∷◌, length, get_or, sym, refl, ap, inl, inr, arith, get_or-set_other}
 use lib.Seq.{set_comm}
 use Rattle.std.proofs.lemmas.Bool.{cases_eq, both_ways, and_parts}
 use Rattle.std.proofs.lemmas.Bool.Decides.{nat_tests}
-use Rattle.lanes.specs.Syntax.{at_barrier}
-use Rattle.lanes.specs.Step.{Lane, Memory, cells, Act, quiet, reads, writes, act, lane_of, after, touched, stepping}
-use Rattle.lanes.specs.Grid.{Group, Grid, Mark, Turn, of, release, no_lane, no_group, with_lane, gone_on, marks, the_group, the_lane, the_act, can, did, marks_at, all_lanes}
+use Rattle.lanes.specs.Step.{Lane, Act, quiet, reads, writes, lane_of, after, touched}
+use Rattle.lanes.specs.Grid.{Group, Grid, Mark, Turn, of, release, no_lane, no_group, gone_on, marks, the_group, the_lane, the_act, can, did, marks_at}
 use Rattle.lanes.specs.Race.{race, unparted}
 use Rattle.lanes.specs.Promise.{Apart}
-use Rattle.lanes.proofs.Places.{at, at-keeps, at-comm}
+use Rattle.lanes.proofs.Places.{at-keeps, at-comm}
 use Rattle.lanes.proofs.Acts.{Alike, after-alike, Clear, after-comm, lane-after}
 use Rattle.lanes.proofs.Turns.{move, did-length, barred-idle}
 

@@ -1,10 +1,10 @@
 -- Two turns of different lanes may be exchanged, if their touches don't race.
-use Rattle.std.proofs.Common.{◌≡◌, ℕ, ◌+◌, ◌<◌, Bool, true, false, cond, ◌⊎◌, List, [], ◌∷◌, ◌++◌, length, get_or, sym, refl, ap, ◌∙◌, subst, inl, inr, append-nil, arith}
+use Rattle.std.proofs.Common.{◌≡◌, ℕ, true, cond, List, [], ◌∷◌, ◌++◌, sym, ap, ◌∙◌, subst, inl, inr, append-nil, arith}
 use Rattle.std.proofs.lemmas.Bool.{cases_Bool}
-use Rattle.lanes.specs.Grid.{Grid, Mark, Turn, can, did, marks_at, weight, turn, turns, marked, steps}
-use Rattle.lanes.specs.Race.{race, Races}
-use Rattle.lanes.specs.Promise.{Apart, Exchanged, Exchange}
-use Rattle.lanes.proofs.Turns.{turn-did, turn-idle, marked-did}
+use Rattle.lanes.specs.Grid.{Grid, Mark, Turn, can, did, marks_at, turn, turns, marked, steps}
+use Rattle.lanes.specs.Race.{Races}
+use Rattle.lanes.specs.Promise.{Apart, Exchange}
+use Rattle.lanes.proofs.Turns.{turn-did, turn-idle}
 use Rattle.lanes.proofs.Crossing.{All, apart-sym, same-can, same-marks, cross}
 use Rattle.lanes.proofs.Runs.{all_left, all_right, all_from}
 use Rattle.lanes.proofs.Orders.{Among, calm-from}

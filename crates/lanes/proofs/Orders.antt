@@ -1,14 +1,13 @@
 -- One end, any order, and each lane's touches: what follows from one row of turns without a race.
-use Rattle.std.proofs.Common.{◌≡◌, ℕ, ◌+◌, ◌<◌, ◌≤◌, Bool, true, false, not, ◌&&◌, ◌||◌, ◌⊎◌, List, [], ◌∷◌, ◌++◌, length, get_or, sym, refl, ap, ◌∙◌, subst, inl, inr, append-nil, arith}
+use Rattle.std.proofs.Common.{◌≡◌, ℕ, ◌<◌, ◌≤◌, true, false, List, [], ◌++◌, length, get_or, sym, refl, ap, ◌∙◌, subst, inl, inr, append-nil, arith}
 use Rattle.std.proofs.lemmas.List.{get_or_default}
 use Rattle.std.proofs.lemmas.Bool.{cases_Bool, cases_order, both_ways}
 use Rattle.std.proofs.lemmas.Bool.Decides.{nat_tests}
 use Rattle.lanes.specs.Syntax.{Program}
 use Rattle.lanes.specs.Grid.{Grid, Mark, Turn, can, turns, marked, steps, all_ended, begin}
 use Rattle.lanes.specs.Race.{race, unparted, Races}
-use Rattle.lanes.specs.Told.{Fits}
 use Rattle.lanes.specs.Promise.{Still, SameEnd, OneEnd, SameField, AnyOrder, marks_of, SameTouches, Phases}
-use Rattle.lanes.proofs.Turns.{turns-append, Full, full-turns, full-begin, ended-still, still-idle}
+use Rattle.lanes.proofs.Turns.{turns-append, full-turns, full-begin, ended-still, still-idle}
 use Rattle.lanes.proofs.Runs.{Left, run-from, run-turns, follow, arrived, all-at, all_from}
 
 pub race-comm : (a b : Mark) → race a b ≡ race b a

@@ -1,10 +1,10 @@
 -- What a race is, from both sides.
-use Rattle.std.proofs.Common.{◌≡◌, ℕ, Bool, true, false, not, ◌&&◌, ◌||◌, eqb, ◌≢◌, ◌⊎◌, sym, refl, ap, inl, inr, arith}
-use Rattle.std.proofs.lemmas.Bool.{cases_Bool, cases_eq, both_ways}
+use Rattle.std.proofs.Common.{◌≡◌, true, false, ◌||◌, ◌≢◌, refl, inl, inr, arith}
+use Rattle.std.proofs.lemmas.Bool.{cases_Bool, cases_eq}
 use Rattle.std.proofs.lemmas.Bool.Decides.{nat_tests}
 use Rattle.lanes.specs.Grid.{Mark}
 use Rattle.lanes.specs.Race.{race, unparted}
-use Rattle.lanes.specs.Promise.{Beside, Racing, Raced, WhatRaces}
+use Rattle.lanes.specs.Promise.{Racing, WhatRaces}
 use Rattle.lanes.proofs.Orders.{race-comm, race-self}
 
 one_place : (a b : Mark) → race a b ≡ true → a.touch.where_is ≡ b.touch.where_is

@@ -1,10 +1,10 @@
 -- The phase of a group only rises: a later mark of a group has no lower phase than an earlier one, and none has a higher one than the group has now.
-use Rattle.std.proofs.Common.{◌≡◌, ℕ, zero, suc, ◌<◌, ◌≤◌, Bool, true, false, ◌⊎◌, List, [], ◌∷◌, ◌++◌, length, get_or, sym, refl, ap, ◌∙◌, subst, inl, inr, le_of_suc-le-suc, not-suc-le-zero, arith}
+use Rattle.std.proofs.Common.{◌≡◌, ℕ, zero, suc, ◌<◌, ◌≤◌, List, [], ◌∷◌, ◌++◌, length, get_or, sym, refl, ap, subst, inl, inr, le_of_suc-le-suc, not-suc-le-zero, arith}
 use Rattle.std.proofs.lemmas.Bool.{cases_Bool}
 use Rattle.lanes.specs.Step.{Touch, touched}
 use Rattle.lanes.specs.Grid.{Group, Grid, Mark, Turn, of, release, no_group, gone_on, the_group, the_act, can, did, marks, marks_at, turn, turns, marked}
 use Rattle.lanes.proofs.Places.{at-holds}
-use Rattle.lanes.proofs.Turns.{move, turn-did, turn-idle, turns-did, turns-idle, marked-did, marked-idle}
+use Rattle.lanes.proofs.Turns.{move, turn-did, turn-idle, marked-did, marked-idle}
 use Rattle.lanes.proofs.Crossing.{All}
 use Rattle.lanes.proofs.Runs.{all_append, all_right, all-at}
 

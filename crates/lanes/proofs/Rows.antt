@@ -1,10 +1,10 @@
 -- The table: every row is computed by the same test, and what is told of it follows.
-use Rattle.std.proofs.Common.{◌≡◌, ℕ, ◌<◌, ◌≤◌, Bool, true, false, not, ◌&&◌, ◌||◌, ltb, List, [], ◌∷◌, sym, refl, ap, ◌∙◌, subst, arith}
+use Rattle.std.proofs.Common.{◌≡◌, ℕ, ◌≤◌, Bool, true, ◌&&◌, ltb, List, [], ◌∷◌, refl, ◌∙◌, subst, arith}
 use Rattle.std.proofs.lemmas.Bool.{and_parts}
 use Rattle.std.proofs.lemmas.Bool.Decides.{nat_tests}
 use Rattle.lanes.specs.Syntax.{followed, at_barrier, ended, past_barrier}
 use Rattle.lanes.specs.Step.{value, store, act, lane_of, after, touched}
-use Rattle.lanes.specs.Grid.{Grid, Turn, the_group, the_lane, all_lanes, all_past, can, the_act, did, turn, turns, marks, marks_at, marked, steps, all_ended, begin}
+use Rattle.lanes.specs.Grid.{Turn, the_group, the_lane, all_lanes, all_past, can, the_act, did, turn, turns, marks, marks_at, marked, steps, all_ended, begin}
 use Rattle.lanes.specs.Race.{race, unparted}
 use Rattle.lanes.specs.Told.{Told, cells, told_first, Shows}
 use Rattle.lanes.specs.Table.{Row, table, start_of, RowStands, AllStand, TableStands}

@@ -1,10 +1,10 @@
 -- Rows of turns that all can be done, to one end: any turn that can be done can be pulled to the front, so every row of turns goes on to the same end.
 -- Pulling a turn to the front keeps each lane's own marks in their order.
-use Rattle.std.proofs.Common.{◌≡◌, ℕ, zero, suc, ◌+◌, ◌<◌, ◌≤◌, Bool, true, false, cond, ◌&&◌, eqb, ◌≢◌, ◌⊎◌, List, [], ◌∷◌, ◌++◌, length, get_or, sym, refl, ap, ◌∙◌, subst, inl, inr, append_assoc, append-nil, suc-le-suc, zero-le, le_of_suc-le-suc, not-suc-le-zero, arith}
+use Rattle.std.proofs.Common.{◌≡◌, ℕ, zero, suc, ◌+◌, ◌<◌, true, false, ◌&&◌, eqb, ◌⊎◌, List, [], ◌∷◌, ◌++◌, length, get_or, sym, refl, ap, ◌∙◌, subst, inl, inr, append_assoc, suc-le-suc, zero-le, le_of_suc-le-suc, not-suc-le-zero, arith}
 use Rattle.std.proofs.lemmas.Bool.{cases_Bool, cases_eq}
 use Rattle.std.proofs.lemmas.Bool.Decides.{nat_tests}
-use Rattle.lanes.specs.Step.{Touch, touched}
-use Rattle.lanes.specs.Grid.{Grid, Mark, Turn, of, release, the_group, the_act, can, did, marks, marks_at, weight, turn, turns, marked, steps}
+use Rattle.lanes.specs.Step.{Touch}
+use Rattle.lanes.specs.Grid.{Grid, Mark, Turn, of, release, can, did, marks, marks_at, weight, turns, marked, steps}
 use Rattle.lanes.specs.Race.{race}
 use Rattle.lanes.specs.Promise.{Apart, marks_of}
 use Rattle.lanes.proofs.Turns.{turn-idle, marked-idle, steps-idle, turns-did, marked-did, steps-did}

@@ -1,10 +1,10 @@
 -- A group none of whose lanes can step, and that can't go on, stays as it is.
-use Rattle.std.proofs.Common.{◌≡◌, ℕ, ◌<◌, Bool, true, false, not, ◌&&◌, ◌||◌, ◌⊎◌, List, [], ◌∷◌, ◌++◌, length, get_or, sym, refl, ap, ◌∙◌, inl, inr, arith}
+use Rattle.std.proofs.Common.{◌≡◌, ℕ, ◌<◌, true, false, List, [], ◌∷◌, length, get_or, refl, ◌∙◌, inl, inr, arith}
 use Rattle.std.proofs.lemmas.Bool.{cases_Bool}
-use Rattle.lanes.specs.Syntax.{at_barrier, ended}
+use Rattle.lanes.specs.Syntax.{at_barrier}
 use Rattle.lanes.specs.Step.{stepping}
 use Rattle.lanes.specs.Grid.{Group, Grid, Turn, of, release, no_lane, no_group, gone_on, the_group, the_lane, can, did, all_lanes, turn, turns}
-use Rattle.lanes.specs.Told.{Told, stuck, Shows}
+use Rattle.lanes.specs.Told.{stuck, Shows}
 use Rattle.lanes.proofs.Places.{at-keeps}
 use Rattle.lanes.proofs.Turns.{move, turn-did, turn-idle, turns-append}
 

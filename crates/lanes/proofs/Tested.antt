@@ -1,5 +1,5 @@
 -- A test that computes whether a row of turns shows what is told; where it comes out true, the row shows it.
-use Rattle.std.proofs.Common.{◌≡◌, ℕ, zero, suc, ◌<◌, ◌≤◌, Bool, true, false, cond, not, ◌&&◌, ◌||◌, eqb, ltb, leb, ◌≢◌, ◌⊎◌, List, [], ◌∷◌, ◌++◌, length, get_or, sym, refl, ap, ◌∙◌, subst, inl, inr, suc-le-suc, zero-le, le_of_suc-le-suc, not-suc-le-zero, arith}
+use Rattle.std.proofs.Common.{◌≡◌, ℕ, zero, suc, ◌<◌, ◌≤◌, Bool, true, false, cond, not, ◌&&◌, ◌||◌, eqb, ltb, leb, ◌≢◌, List, [], ◌∷◌, length, get_or, sym, refl, ap, ◌∙◌, subst, inl, inr, suc-le-suc, zero-le, le_of_suc-le-suc, not-suc-le-zero, arith}
 use Rattle.std.proofs.lemmas.List.{get_or_default}
 use Rattle.std.proofs.lemmas.Bool.{cases_Bool, and_parts, both_ways}
 use Rattle.std.proofs.lemmas.Bool.Decides.{nat_tests}
@@ -9,7 +9,7 @@ use Rattle.lanes.specs.Grid.{Group, Grid, Mark, Turn, no_lane, no_group, the_gro
 use Rattle.lanes.specs.Race.{race, Races}
 use Rattle.lanes.specs.Told.{Told, cells, races, missing, stuck, too_long, told_first, NoneWrong, Shows}
 use Rattle.lanes.proofs.Orders.{Among, race-self}
-use Rattle.lanes.proofs.Stuck.{Stuck, shows-stuck}
+use Rattle.lanes.proofs.Stuck.{shows-stuck}
 
 -- two lists of numbers, two marks
 abbrev same_numbers : List ℕ → List ℕ → Bool

@@ -1,10 +1,10 @@
 -- Every touch is of a cell that is there, and the lengths of memory stay.
-use Rattle.std.proofs.Common.{◌≡◌, ℕ, suc, ◌<◌, Bool, true, false, cond, eqb, ltb, ◌⊎◌, List, [], ◌∷◌, ◌++◌, length, get_or, sym, refl, ap, ◌∙◌, subst, inl, inr, arith}
+use Rattle.std.proofs.Common.{◌≡◌, ℕ, suc, ◌<◌, List, [], ◌∷◌, length, sym, refl, ◌∙◌, subst, inl, inr, arith}
 use Rattle.std.proofs.lemmas.Bool.{cases_Bool}
 use Rattle.std.proofs.lemmas.Bool.Decides.{nat_tests}
-use Rattle.lanes.specs.Step.{Lane, Memory, cells, Touch, Act, quiet, reads, writes, act, after, touched}
+use Rattle.lanes.specs.Step.{Lane, cells, Touch, Act, quiet, reads, writes, act, touched}
 use Rattle.lanes.specs.Grid.{Grid, Mark, Turn, of, release, the_group, the_lane, the_act, can, did, marks, marks_at, turn, turns, marked}
-use Rattle.lanes.specs.There.{TouchesIn, TouchesThere}
+use Rattle.lanes.specs.There.{TouchesThere}
 use Rattle.lanes.proofs.Acts.{Alike, after-alike}
 use Rattle.lanes.proofs.Turns.{turn-did, turn-idle, marked-did, marked-idle}
 use Rattle.lanes.proofs.Crossing.{All}

@@ -1,10 +1,10 @@
 -- A row of turns, turn by turn: what a turn does that can be done; any other leaves all as it is. What holds of a row in two parts.
-use Rattle.std.proofs.Common.{◌≡◌, ℕ, zero, suc, ◌+◌, ◌<◌, ◌≤◌, Bool, true, false, cond, not, ◌&&◌, ◌||◌, ltb, ◌⊎◌, List, [], ◌∷◌, ◌++◌, length, get_or, set, replicate, sym, refl, ap, ◌∙◌, inl, inr, append_assoc, not-suc-le-zero, add_assoc, zero-add, arith, length-set}
+use Rattle.std.proofs.Common.{◌≡◌, ℕ, zero, suc, ◌+◌, ◌<◌, ◌≤◌, Bool, true, false, cond, List, [], ◌∷◌, ◌++◌, length, get_or, sym, refl, ap, ◌∙◌, inl, inr, append_assoc, not-suc-le-zero, add_assoc, zero-add, arith, length-set}
 use lib.ListN.{length-replicate, get_or-replicate}
 use Rattle.std.proofs.lemmas.Bool.{cases_Bool, and_parts, both_ways}
 use Rattle.std.proofs.lemmas.Bool.Decides.{nat_tests}
 use Rattle.lanes.specs.Syntax.{Program, Body, at_barrier, ended}
-use Rattle.lanes.specs.Step.{Lane, stepping, goes_to}
+use Rattle.lanes.specs.Step.{Lane, stepping}
 use Rattle.lanes.specs.Grid.{Group, Grid, Mark, Turn, of, release, no_lane, no_group, with_lane, gone_on, the_group, the_lane, can, did, marks_at, weight, all_lanes, all_past, turn, turns, marked, steps, all_ended, begin}
 use Rattle.lanes.specs.Promise.{Still}
 use Rattle.lanes.proofs.Places.{at-keeps}

@@ -1,12 +1,11 @@
 -- Where one row of turns shows a field, no row shows anything else.
-use Rattle.std.proofs.Common.{◌≡◌, ℕ, ◌<◌, ◌≤◌, Bool, true, false, not, ◌||◌, ◌≢◌, ◌⊎◌, List, [], ◌∷◌, ◌++◌, length, get_or, sym, refl, ap, ◌∙◌, subst, inl, inr, arith}
+use Rattle.std.proofs.Common.{◌≡◌, ℕ, ◌≤◌, true, false, List, get_or, sym, ap, ◌∙◌, subst, inl, inr, arith}
 use Rattle.std.proofs.lemmas.Bool.{cases_Bool, cases_order, both_ways}
-use Rattle.lanes.specs.Syntax.{Program, at_barrier, ended}
-use Rattle.lanes.specs.Step.{stepping}
-use Rattle.lanes.specs.Grid.{Grid, Turn, Mark, no_lane, no_group, the_group, the_lane, turns, marked, steps, all_ended, all_lanes, begin}
-use Rattle.lanes.specs.Race.{race, Races}
-use Rattle.lanes.specs.Told.{Fits, Told, cells, races, missing, stuck, too_long, NoneWrong, Shows, Right}
-use Rattle.lanes.specs.Promise.{Still, SameEnd, OneEnd, InOrder, NeverAccused, OneVerdict}
+use Rattle.lanes.specs.Syntax.{Program, at_barrier}
+use Rattle.lanes.specs.Grid.{Grid, Turn, Mark, no_group, the_group, the_lane, turns, steps, all_ended, begin}
+use Rattle.lanes.specs.Race.{Races}
+use Rattle.lanes.specs.Told.{Told, cells, races, missing, stuck, too_long, NoneWrong, Shows, Right}
+use Rattle.lanes.specs.Promise.{SameEnd, OneEnd, InOrder, NeverAccused, OneVerdict}
 use Rattle.lanes.proofs.Turns.{turns-append, ended-group, ended-waits}
 use Rattle.lanes.proofs.Wrong.{turns-wrong}
 use Rattle.lanes.proofs.Orders.{race-comm, one_end, ended-stills}

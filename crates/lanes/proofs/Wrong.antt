@@ -1,9 +1,9 @@
 -- A lane that has gone wrong has ended, and stays wrong, whatever turns follow.
-use Rattle.std.proofs.Common.{◌≡◌, ℕ, zero, suc, Bool, true, false, eqb, ltb, ◌⊎◌, List, [], ◌∷◌, ◌++◌, length, get_or, set, replicate, sym, refl, ap, ◌∙◌, subst, inl, inr, arith}
+use Rattle.std.proofs.Common.{◌≡◌, ℕ, zero, suc, true, false, List, [], ◌∷◌, length, get_or, replicate, refl, ◌∙◌, inl, inr, arith}
 use Rattle.std.proofs.lemmas.Bool.{cases_Bool, both_ways}
 use Rattle.std.proofs.lemmas.Bool.Decides.{nat_tests}
 use Rattle.lanes.specs.Syntax.{Program, Body, ended, past_barrier}
-use Rattle.lanes.specs.Step.{Lane, Memory, cells, Act, act, lane_of}
+use Rattle.lanes.specs.Step.{Lane, Memory, cells, act, lane_of}
 use Rattle.lanes.specs.Grid.{Group, Grid, Turn, of, release, no_lane, no_group, gone_on, the_group, the_lane, the_act, can, did, all_past, turn, turns, begin}
 use Rattle.lanes.specs.There.{WrongEnded}
 use Rattle.lanes.proofs.Places.{at-holds}

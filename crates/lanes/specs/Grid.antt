@@ -1,5 +1,5 @@
 -- The whole grid of groups of lanes, one turn of it, and a row of turns, which is one order in which all is done.
-use Rattle.std.specs.Prelude.{ℕ, zero, suc, ◌+◌, Bool, true, false, cond, not, ◌&&◌, ◌||◌, List, [], ◌∷◌, ◌++◌, length, replicate, nat_lt, slice_index_or, slice_set}
+use Rattle.std.specs.Prelude.{ℕ, suc, ◌+◌, Bool, true, false, cond, ◌&&◌, List, [], ◌∷◌, ◌++◌, length, replicate, nat_lt, slice_index_or, slice_set}
 use Rattle.lanes.specs.Syntax.{Program, Body, end, at_barrier, ended, past_barrier}
 use Rattle.lanes.specs.Step.{Lane, Memory, cells, Touch, Act, act, lane_of, after, touched, goes_to, stepping}
 

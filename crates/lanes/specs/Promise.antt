@@ -1,5 +1,5 @@
 -- What is promised of the definitions. Each promise is a statement; the functions of src/lib.rt have them as their contracts.
-use Rattle.std.specs.Prelude.{◌≡◌, ℕ, ◌≤◌, Bool, true, false, cond, ◌&&◌, ◌≢◌, ◌⊎◌, List, [], ◌∷◌, ◌++◌, ◌==◌}
+use Rattle.std.specs.Prelude.{◌≡◌, ℕ, ◌≤◌, true, false, cond, ◌&&◌, ◌≢◌, ◌⊎◌, List, [], ◌∷◌, ◌++◌, ◌==◌}
 use Rattle.lanes.specs.Syntax.{Program}
 use Rattle.lanes.specs.Grid.{Grid, Turn, of, release, Mark, turns, marked, steps, can, all_ended, begin}
 use Rattle.lanes.specs.Race.{race, Races}

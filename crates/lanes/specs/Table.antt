@@ -1,7 +1,7 @@
 -- Small programs, each with what is told of it and an order of turns that shows it: one table, held as a whole by one theorem.
 use Rattle.std.specs.Prelude.{◌≡◌, ℕ, true, false, List, [], ◌∷◌}
 use Rattle.lanes.specs.Syntax.{Program, end, put, read_shared, write_shared, write_all, barrier, when, while, fixed, var, lane, group, lanes, plus, minus, times, over, rest_of, less, same}
-use Rattle.lanes.specs.Grid.{Grid, Turn, of, release, Mark, turns, all_ended, begin}
+use Rattle.lanes.specs.Grid.{Grid, Turn, of, release, turns, all_ended, begin}
 use Rattle.lanes.specs.Told.{Told, cells, races, missing, stuck, too_long, Shows}
 
 -- A row of the table: a program, how many groups of how many lanes, the field before, the steps granted, an order, and what is told.

@@ -1,4 +1,6 @@
 // The meaning of the language. The definitions are in specs/; what stands here are the theorems about them, each the contract of a function.
+#![tactic(auto)]
+
 ghost use Rattle.lanes.specs.Promise.{OneEnd, AnyOrder, Exchange, Phases, WhatRaces, NeverAccused, OneVerdict};
 ghost use Rattle.lanes.specs.There.{TouchesThere, WrongEnded};
 ghost use Rattle.lanes.specs.Table.{TableStands};

@@ -1,8 +1,6 @@
 -- What a scheduler keeps in words of its own changes nothing else.
-use Rattle.std.proofs.Common.{◌≡◌, ℕ, suc, ◌+◌, ◌<◌, ◌≤◌, Bool, true, false, ◌⊎◌, List, sym, refl, ap, ◌∙◌, subst, inl, inr, arith}
+use Rattle.std.proofs.Common.{◌≡◌, ℕ, suc, ◌<◌, ◌≤◌, ◌⊎◌, List, refl, ◌∙◌, inl, inr, arith}
 use Rattle.lanes.specs.Syntax.{Body}
-use Rattle.code.specs.Code.{is_jump}
-use Rattle.code.specs.Words.{step_at}
 use Rattle.store.specs.declared.Sizes.{Sizes}
 use Rattle.store.specs.Layout.{Sized, slots}
 use Rattle.store.specs.Lent.{slot_of, line_at, phase_of_spec, grid_of, Lined}

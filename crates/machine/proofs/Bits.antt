@@ -1,8 +1,7 @@
 -- Bits of a mask above which there is none.
-use Rattle.std.proofs.Common.{◌≡◌, ℕ, zero, suc, ◌+◌, ◌-◌, ◌*◌, ◌/◌, ◌%◌, ◌^◌, ◌<◌, ◌≤◌, Bool, true, false, eqb, ◌⊎◌, sym, refl, ap, ◌∙◌, inl, inr, mod-lt, pow-suc, mul-zero, arith, pow_pos, pow_mono}
+use Rattle.std.proofs.Common.{◌≡◌, ℕ, zero, suc, ◌+◌, ◌-◌, ◌*◌, ◌/◌, ◌%◌, ◌^◌, ◌<◌, ◌≤◌, true, false, ◌⊎◌, sym, refl, ap, ◌∙◌, inl, inr, mod-lt, pow-suc, mul-zero, arith, pow_pos, pow_mono}
 use native.Mathlib.Nat.{div-eq_of_lt, div-div-eq-div-mul, mod-add-div}
-use Rattle.std.proofs.lemmas.Bool.{cases_lt, eqb-true, eqb-false, eq-eqb, ne_eqb, both_ways, cases_Bool}
-use Rattle.std.proofs.lemmas.Bool.Decides.{nat_tests}
+use Rattle.std.proofs.lemmas.Bool.{cases_lt, eqb-false, both_ways, cases_Bool}
 use Rattle.store.specs.declared.Sizes.{Sizes}
 use Rattle.machine.specs.Line.{on}
 use Rattle.machine.specs.Plans.{RowIn}

@@ -1,8 +1,8 @@
 -- How far phases rise.
-use Rattle.std.proofs.Common.{◌≡◌, ℕ, zero, suc, ◌+◌, ◌*◌, ◌<◌, ◌≤◌, Bool, true, false, ◌⊎◌, List, sym, refl, ap, ◌∙◌, subst, inl, inr, add-mul, arith}
+use Rattle.std.proofs.Common.{◌≡◌, ℕ, zero, suc, ◌+◌, ◌<◌, ◌≤◌, true, false, List, refl, ap, ◌∙◌, inl, inr, add-mul, arith}
 use Rattle.std.proofs.lemmas.Nat.{mul-le}
 use Rattle.std.proofs.lemmas.Bool.{both_ways}
-use Rattle.lanes.specs.Syntax.{Body, Expr, end, put, read_shared, write_shared, read_all, write_all, barrier, when, while}
+use Rattle.lanes.specs.Syntax.{Body}
 use Rattle.code.specs.declared.step.Step.{Step}
 use Rattle.code.specs.declared.step.Step.TheVariants.{Put, Read, Write, Branch, Jump, Barrier, End}
 use Rattle.code.specs.Code.{Does, Goes, Onward, Coded, is_loop}

@@ -1,5 +1,5 @@
 -- Neighbouring lanes that touch neighbouring cells did their line one after the other.
-use Rattle.std.proofs.Common.{◌≡◌, ℕ, zero, suc, ◌+◌, ◌-◌, ◌*◌, ◌<◌, ◌≤◌, Bool, true, false, ◌⊎◌, List, [], ◌∷◌, ◌++◌, length, get_or, take, set, Some, None, Option, sym, refl, ap, ◌∙◌, subst, inl, inr, add_assoc, add-one, arith, below_more}
+use Rattle.std.proofs.Common.{◌≡◌, ℕ, zero, suc, ◌+◌, ◌-◌, ◌*◌, ◌<◌, ◌≤◌, Bool, true, false, List, [], ◌∷◌, ◌++◌, length, get_or, take, set, Some, None, Option, sym, refl, ap, ◌∙◌, add-one, arith, below_more}
 use lib.Seq.{paste}
 use lib.Bits.{bit_or, bit_xor}
 use Rattle.std.specs.List.{between}
@@ -14,8 +14,8 @@ use Rattle.store.specs.declared.Todo.{Todo}
 use Rattle.store.specs.declared.Todo.TheVariants.{Read, Write}
 use Rattle.store.specs.declared.Deed.TheVariants.{Touched}
 use Rattle.store.specs.declared.Seen.{Seen}
-use Rattle.store.specs.Layout.{Sized, slots, base, size, whose, room, cells_room}
-use Rattle.store.specs.Lent.{Lent, phase_of_spec, grid_of}
+use Rattle.store.specs.Layout.{Sized, base, size, whose, room, cells_room}
+use Rattle.store.specs.Lent.{Lent, phase_of_spec}
 use Rattle.store.specs.Acts.{Did, Ready, Placed}
 use Rattle.store.specs.Rows.{slot_row, put_row_spec}
 use Rattle.store.proofs.Deeds.{done-read, done-write, placed_at}
@@ -27,10 +27,10 @@ use Rattle.touches.specs.Rows.{lane_on_spec, kept_row, Calm, RowTouchedBy}
 use Rattle.touches.proofs.Whole.{touched-as}
 use Rattle.touches.proofs.Neighbours.{row-length}
 use Rattle.machine.specs.declared.outcome.Outcome.{Outcome}
-use Rattle.machine.specs.declared.outcome.Outcome.TheVariants.{Fine, Raced, Wrong}
+use Rattle.machine.specs.declared.outcome.Outcome.TheVariants.{Fine, Raced}
 use Rattle.machine.specs.Sofar.{layout, Sofar, After, Doing, paired_of}
 use Rattle.machine.specs.Masks.{LaneDid}
-use Rattle.machine.specs.Spans.{LanesDid, Stops, PartDid}
+use Rattle.machine.specs.Spans.{LanesDid, PartDid}
 use Rattle.machine.specs.Together.{Together, outcome_of}
 use Rattle.machine.proofs.Noted.{noted-kept, noted-raced, keepable, rising}
 use Rattle.machine.proofs.Parted.{lanes-phase}

@@ -1,26 +1,26 @@
 -- A choice is done: what came of a row's line, or of a group that goes on.
-use Rattle.std.proofs.Common.{◌≡◌, ℕ, zero, suc, ◌+◌, ◌-◌, ◌*◌, ◌<◌, ◌≤◌, Bool, true, false, ◌⊎◌, List, [], ◌∷◌, ◌++◌, length, sym, refl, ap, ◌∙◌, subst, inl, inr, append-nil, add-zero, arith}
-use Rattle.std.proofs.lemmas.Bool.{cases_eq, cases_lt}
-use Rattle.lanes.specs.Syntax.{Body, barrier}
-use Rattle.lanes.specs.Grid.{Grid, Turn, of, release, Mark, can, turn, turns, marked, marks_at, steps, weight}
+use Rattle.std.proofs.Common.{◌≡◌, ℕ, zero, suc, ◌+◌, ◌-◌, ◌<◌, ◌≤◌, true, List, [], ◌∷◌, ◌++◌, sym, refl, ap, ◌∙◌, subst, inl, inr, append-nil, add-zero, arith}
+use Rattle.std.proofs.lemmas.Bool.{cases_eq}
+use Rattle.lanes.specs.Syntax.{Body}
+use Rattle.lanes.specs.Grid.{Grid, Turn, of, release, can, turn, turns, marked, marks_at, steps}
 use Rattle.lanes.specs.Told.{Shows, too_long, NoneWrong}
-use Rattle.lanes.proofs.Turns.{turns-append, steps-append}
+use Rattle.lanes.proofs.Turns.{steps-append}
 use Rattle.grammar.specs.Spelling.{Named}
 use Rattle.code.specs.Words.{step_at}
 use Rattle.store.specs.declared.Sizes.{Sizes}
-use Rattle.store.specs.Layout.{Sized, slots}
-use Rattle.store.specs.Lent.{Lined, slot_of, line_at, phase_of_spec, grid_of}
+use Rattle.store.specs.Layout.{Sized}
+use Rattle.store.specs.Lent.{Lined, line_at, phase_of_spec, grid_of}
 use Rattle.store.proofs.Slots.{phase-same}
 use Rattle.machine.specs.declared.schedule.Choice.TheVariants.{Row, GoOn}
-use Rattle.machine.specs.declared.outcome.Outcome.TheVariants.{Fine, Raced, Wrong}
-use Rattle.machine.specs.Sofar.{Sofar, After}
+use Rattle.machine.specs.declared.outcome.Outcome.TheVariants.{Fine}
+use Rattle.machine.specs.Sofar.{Sofar}
 use Rattle.machine.specs.Line.{Runs, on, lanes_in, row_turns}
-use Rattle.machine.specs.Schedule.{RowCan, turns_of}
+use Rattle.machine.specs.Schedule.{RowCan}
 use Rattle.machine.specs.Plans.{LineOutcome}
 use Rattle.machine.specs.Moves.{WentOn}
 use Rattle.machine.specs.Carried.{Carried}
 use Rattle.machine.specs.Tally.{RowCounted}
-use Rattle.machine.specs.Verdict.{barriers, highest, StandsAt, Stepped, Gone, WentTo}
+use Rattle.machine.specs.Verdict.{barriers, highest, StandsAt, WentTo}
 use Rattle.machine.proofs.Rows.{grid-more, marked_more, steps-more, right-released}
 use Rattle.machine.proofs.Counting.{row-steps}
 use Rattle.machine.proofs.Bounds.{few-barriers, highest-more}

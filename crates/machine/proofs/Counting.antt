@@ -1,8 +1,8 @@
 -- How many lanes are in a mask, and that its row of turns has as many steps.
-use Rattle.std.proofs.Common.{◌≡◌, ℕ, zero, suc, ◌+◌, ◌<◌, ◌≤◌, Bool, true, false, cond, ◌⊎◌, List, [], ◌∷◌, ◌++◌, length, sym, refl, ap, ◌∙◌, subst, inl, inr, append-nil, add-zero, add-one, arith, length-append}
-use Rattle.lanes.specs.Grid.{Grid, Turn, of, release, can, did, turn, turns, steps, weight}
+use Rattle.std.proofs.Common.{◌≡◌, ℕ, zero, suc, ◌+◌, ◌<◌, ◌≤◌, Bool, true, false, cond, [], ◌∷◌, length, sym, refl, ap, ◌∙◌, inl, inr, append-nil, add-zero, arith, length-append}
+use Rattle.lanes.specs.Grid.{Grid, of, can, turns, steps}
 use Rattle.lanes.specs.Promise.{Apart}
-use Rattle.lanes.proofs.Turns.{turn-did, turns-append, steps-append, steps-did}
+use Rattle.lanes.proofs.Turns.{turns-append, steps-append, steps-did}
 use Rattle.std.proofs.lemmas.Bool.{cases_Bool}
 use Rattle.machine.specs.Line.{on, lanes_in, row_turns}
 use Rattle.machine.proofs.Passing.{turn-can}

@@ -1,13 +1,13 @@
 -- A group whose lanes stand at their barriers goes on.
-use Rattle.std.proofs.Common.{◌≡◌, ℕ, zero, suc, ◌+◌, ◌<◌, ◌≤◌, Bool, true, false, ◌⊎◌, List, sym, refl, ap, ◌∙◌, subst, inl, inr, arith}
+use Rattle.std.proofs.Common.{◌≡◌, ℕ, suc, ◌+◌, ◌<◌, ◌≤◌, true, false, ◌⊎◌, List, sym, ap, ◌∙◌, subst, inl, inr, arith}
 use Rattle.std.proofs.lemmas.Bool.{both_ways, cases_Bool, cases_eq}
 use Rattle.lanes.specs.Syntax.{Body, barrier, at_barrier}
-use Rattle.lanes.specs.Grid.{Grid, release, can, turn}
+use Rattle.lanes.specs.Grid.{release, can, turn}
 use Rattle.code.specs.Words.{step_at}
 use Rattle.code.specs.Code.{is_jump}
 use Rattle.code.specs.Settle.{Settles, Leads}
 use Rattle.store.specs.declared.Sizes.{Sizes}
-use Rattle.store.specs.Layout.{Sized, slots}
+use Rattle.store.specs.Layout.{Sized}
 use Rattle.store.specs.Lent.{Lined, slot_of, line_at, phase_of_spec, grid_of}
 use Rattle.store.specs.Acts.{Released}
 use Rattle.store.specs.Counts.{Counted}

@@ -1,5 +1,5 @@
 -- What the counts of a group tell, and that they stay right where lanes step.
-use Rattle.std.proofs.Common.{◌≡◌, ℕ, suc, ◌+◌, ◌<◌, ◌≤◌, Bool, true, false, not, ◌&&◌, ◌||◌, eqb, ◌⊎◌, List, sym, refl, ap, ◌∙◌, subst, inl, inr, arith}
+use Rattle.std.proofs.Common.{◌≡◌, ℕ, ◌+◌, ◌<◌, ◌≤◌, Bool, true, false, not, ◌&&◌, eqb, List, sym, ap, ◌∙◌, inl, inr, arith}
 use Rattle.std.proofs.lemmas.Bool.{cases_Bool, cases_eq, eq-eqb, ne_eqb}
 use Rattle.std.proofs.lemmas.Bool.Decides.{nat_tests}
 use Rattle.lanes.specs.Syntax as body
@@ -14,8 +14,7 @@ use Rattle.store.specs.Counts.{how_many, Counted}
 use Rattle.store.proofs.Counts.{many-same, many-few, all-many, some-not, counted_same, counted-row}
 use Rattle.machine.specs.Line.{on, Coding, Runs}
 use Rattle.machine.specs.Schedule.{RowCan}
-use Rattle.machine.specs.Plans.{RowIn}
-use Rattle.machine.specs.Tally.{Stood, CountsOnly, RowCounted}
+use Rattle.machine.specs.Tally.{Stood, RowCounted}
 use Rattle.machine.specs.Verdict.{Waiting}
 use Rattle.machine.proofs.Stances.{can-of, can-go, cannot-go}
 use Rattle.machine.proofs.Tallying.{line-still}

@@ -1,11 +1,10 @@
 -- A line for a mask, from the entry at which its lanes stand.
-use Rattle.std.proofs.Common.{◌≡◌, ℕ, zero, suc, ◌+◌, ◌*◌, ◌/◌, ◌<◌, ◌≤◌, Bool, true, false, cond, ◌&&◌, ltb, ◌⊎◌, List, [], ◌∷◌, ◌++◌, length, get_or, Some, None, Option, sym, refl, ap, ◌∙◌, subst, inl, inr, append-nil, le_of_eq, arith}
+use Rattle.std.proofs.Common.{◌≡◌, ℕ, zero, suc, ◌+◌, ◌*◌, ◌/◌, ◌<◌, ◌≤◌, true, false, ◌⊎◌, List, [], ◌++◌, length, get_or, Some, None, Option, sym, refl, ap, ◌∙◌, subst, inl, inr, append-nil, le_of_eq, arith}
 use Rattle.std.proofs.lemmas.Bool.{cases_Bool, both_ways, and_parts}
-use Rattle.lanes.specs.Syntax.{Body, Expr, end}
+use Rattle.lanes.specs.Syntax.{Body, end}
 use Rattle.lanes.specs.Step.{value, stepping, Lane}
 use Rattle.lanes.specs.Grid.{Grid, Turn, of, can, turns, steps, the_lane}
 use Rattle.grammar.specs.Spelling.{Named}
-use Rattle.grammar.specs.Stands.{Stands}
 use Rattle.code.specs.declared.step.Step.{Step}
 use Rattle.code.specs.Code as code
 use Rattle.code.specs.Code.{Does, Coded, Settled, is_jump}
@@ -14,19 +13,19 @@ use Rattle.code.specs.Words.{step_at}
 use Rattle.store.specs.declared.Sizes.{Sizes}
 use Rattle.store.specs.declared.Todo.{Todo}
 use Rattle.store.specs.declared.Todo.TheVariants as todo
-use Rattle.store.specs.Lent.{slot_of, line_at, own_of, lane_at, grid_of, Lined}
+use Rattle.store.specs.Lent.{line_at, own_of, lane_at, grid_of}
 use Rattle.store.specs.Acts.{NextIs, Ready, Goes, SentTo}
 use Rattle.store.proofs.Grids.{the-lane-is}
 use Rattle.values.specs.Ready.{Ready as Held}
 use Rattle.machine.specs.declared.line.Plan.{Plan}
 use Rattle.machine.specs.declared.outcome.Outcome.{Outcome}
 use Rattle.machine.specs.declared.outcome.Outcome.TheVariants.{Fine, Raced, Wrong}
-use Rattle.machine.specs.Sofar.{Sofar, After}
+use Rattle.machine.specs.Sofar.{Sofar}
 use Rattle.machine.specs.Line.{on, row_turns, Loaded, Coding, Masked, LineDone}
 use Rattle.machine.specs.Prepare.{second_at, ReadySteps}
-use Rattle.machine.specs.Masks.{ReadyRow, RowDid, RowOutcome, Ends}
+use Rattle.machine.specs.Masks.{ReadyRow, RowOutcome, Ends}
 use Rattle.machine.specs.Plans.{plan_of_spec, Worked, SecondReady, SecondWorked, RowIn, Led, LineOutcome}
-use Rattle.machine.proofs.Planned.{plan-fits, plan-goes, plan-step, first-ready, second-ready, no-plan, next_is, last_end, Second}
+use Rattle.machine.proofs.Planned.{plan-goes, plan-step, first-ready, second-ready, no-plan, next_is, last_end, Second}
 use Rattle.machine.proofs.Preparing.{entry-there}
 use Rattle.machine.proofs.Leading.{led-next, led-goes, led-sent, plan-sends}
 

@@ -1,22 +1,18 @@
 -- From one choice to the next.
-use Rattle.std.proofs.Common.{◌≡◌, ℕ, suc, ◌+◌, ◌*◌, ◌<◌, ◌≤◌, Bool, true, false, ◌⊎◌, List, [], ◌∷◌, ◌++◌, length, sym, refl, ap, ◌∙◌, subst, inl, inr, append_assoc, append-nil, arith}
+use Rattle.std.proofs.Common.{◌≡◌, ℕ, ◌+◌, ◌<◌, ◌≤◌, true, List, [], ◌∷◌, ◌++◌, length, sym, refl, ap, ◌∙◌, subst, inl, inr, append_assoc, append-nil, arith}
 use Rattle.std.proofs.lemmas.Bool.{cases_lt, both_ways}
 use Rattle.lanes.specs.Syntax.{Body}
-use Rattle.lanes.specs.Grid.{Grid, Turn, release, can, turns, steps as steps_of}
+use Rattle.lanes.specs.Grid.{Grid, Turn, release, can, steps as steps_of}
 use Rattle.lanes.specs.Promise.{Still}
-use Rattle.lanes.specs.Told.{Shows}
 use Rattle.store.specs.declared.Sizes.{Sizes}
-use Rattle.store.specs.Layout.{Sized, room, cells_room}
-use Rattle.store.specs.Lent.{Lent, line_at, grid_of, phase_of_spec, field_of}
+use Rattle.store.specs.Layout.{Sized}
+use Rattle.store.specs.Lent.{Lent, line_at, grid_of}
 use Rattle.machine.specs.declared.schedule.Choice.{Choice}
 use Rattle.machine.specs.declared.schedule.Choice.TheVariants.{Row, GoOn}
-use Rattle.machine.specs.declared.verdict.Verdict.{Verdict}
 use Rattle.machine.specs.declared.verdict.Ran.{Ran}
-use Rattle.machine.specs.Sofar.{Sofar}
-use Rattle.machine.specs.Line.{Runs}
 use Rattle.machine.specs.Schedule.{CanDo, turns_of}
-use Rattle.machine.specs.Carried.{AsideOnly, Carried}
-use Rattle.machine.specs.Verdict.{told_of, highest, barriers, at_rest, row_weight, StandsAt, WentTo, WasTold, MayGo, Over, SetsOut, all_turns, rows_in, Comes, Rests, RanSo}
+use Rattle.machine.specs.Carried.{AsideOnly}
+use Rattle.machine.specs.Verdict.{barriers, row_weight, StandsAt, WentTo, WasTold, MayGo, Over, SetsOut, all_turns, rows_in, Comes, RanSo}
 use Rattle.machine.proofs.Stances.{cannot-outside}
 use Rattle.machine.proofs.Bounds.{highest-few}
 use Rattle.machine.proofs.Overs.{shows-over}

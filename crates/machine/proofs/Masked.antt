@@ -1,14 +1,14 @@
 -- A line for a mask is the steps of its lanes.
-use Rattle.std.proofs.Common.{◌≡◌, ℕ, zero, suc, ◌+◌, ◌<◌, ◌≤◌, Bool, true, false, cond, ◌⊎◌, List, [], ◌∷◌, ◌++◌, length, get_or, sym, refl, ap, ◌∙◌, subst, inl, inr, append_assoc, append-nil, not-suc-le-zero, add-one, arith}
+use Rattle.std.proofs.Common.{◌≡◌, ℕ, ◌+◌, ◌<◌, true, false, ◌⊎◌, List, [], ◌∷◌, ◌++◌, get_or, sym, refl, ap, ◌∙◌, subst, inl, inr, append_assoc, append-nil, not-suc-le-zero, add-one, arith}
 use Rattle.std.proofs.lemmas.List.{length_push}
-use Rattle.std.proofs.lemmas.Bool.{both_ways, cases_Bool, cases_eq}
+use Rattle.std.proofs.lemmas.Bool.{both_ways, cases_eq}
 use Rattle.lanes.specs.Syntax.{Body, end}
-use Rattle.lanes.specs.Grid.{Grid, Turn, of, can, turn, turns, steps, weight}
+use Rattle.lanes.specs.Grid.{Grid, Turn, of, can, turn, turns, steps}
 use Rattle.store.specs.declared.Sizes.{Sizes}
 use Rattle.store.specs.declared.Todo.{Todo}
 use Rattle.store.specs.Layout.{Sized, slots}
-use Rattle.store.specs.Lent.{slot_of, line_at, own_of, grid_of, phase_of_spec, Lined, Only}
-use Rattle.store.specs.Acts.{NextIs, Ready, Goes, SentTo}
+use Rattle.store.specs.Lent.{slot_of, line_at, own_of, grid_of, phase_of_spec}
+use Rattle.store.specs.Acts.{Ready, SentTo}
 use Rattle.store.proofs.Slots.{own_same, phase-same}
 use Rattle.machine.specs.declared.outcome.Outcome.{Outcome}
 use Rattle.machine.specs.declared.outcome.Outcome.TheVariants.{Fine, Raced, Wrong}

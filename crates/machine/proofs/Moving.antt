@@ -1,9 +1,9 @@
 -- What doing a choice makes of the lent slices.
-use Rattle.std.proofs.Common.{◌≡◌, ℕ, suc, ◌+◌, ◌-◌, ◌<◌, ◌≤◌, Bool, true, false, eqb, ◌⊎◌, List, [], ◌∷◌, ◌++◌, sym, refl, ap, ◌∙◌, subst, inl, inr, arith}
+use Rattle.std.proofs.Common.{◌≡◌, ℕ, suc, ◌+◌, ◌-◌, ◌<◌, ◌≤◌, true, false, eqb, ◌⊎◌, List, sym, refl, ap, ◌∙◌, subst, inl, inr, arith}
 use Rattle.std.proofs.lemmas.Bool.{cases_Bool, cases_eq, cases_lt, both_ways}
 use Rattle.lanes.specs.Syntax.{Body}
 use Rattle.lanes.specs.Step.{Lane}
-use Rattle.lanes.specs.Grid.{Grid, Turn, release, can, turn, turns, the_lane}
+use Rattle.lanes.specs.Grid.{Grid, Turn, release, can, turns, the_lane}
 use Rattle.lanes.specs.Told.{NoneWrong}
 use Rattle.code.specs.Code.{is_jump}
 use Rattle.code.specs.Settle.{Leads}
@@ -18,7 +18,7 @@ use Rattle.machine.specs.declared.schedule.Choice.TheVariants.{Row, GoOn}
 use Rattle.machine.specs.declared.outcome.Outcome.TheVariants.{Fine}
 use Rattle.machine.specs.Sofar.{Sofar}
 use Rattle.machine.specs.Line.{on, row_turns, Straight, Runs}
-use Rattle.machine.specs.Schedule.{RowCan, turns_of}
+use Rattle.machine.specs.Schedule.{RowCan}
 use Rattle.machine.specs.Plans.{LineOutcome}
 use Rattle.machine.specs.Moves.{WentOn}
 use Rattle.machine.specs.Tally.{Stood, RowCounted}

@@ -1,30 +1,27 @@
 -- A lane's turn and what came of its touch: all is well after it, or it shows a race or a wrong lane.
-use Rattle.std.proofs.Common.{◌≡◌, ℕ, zero, suc, ◌+◌, ◌*◌, ◌<◌, ◌≤◌, Bool, true, false, cond, ◌&&◌, ◌||◌, eqb, ltb, leb, ◌⊎◌, List, [], ◌∷◌, ◌++◌, length, Some, None, Option, sym, refl, ap, ◌∙◌, subst, inl, inr, append-nil, arith}
+use Rattle.std.proofs.Common.{◌≡◌, ℕ, ◌<◌, ◌≤◌, true, false, cond, ◌&&◌, ◌||◌, eqb, ltb, leb, List, [], ◌∷◌, ◌++◌, Some, None, sym, refl, ap, ◌∙◌, subst, append-nil, arith}
 use Rattle.std.proofs.lemmas.Bool.{cond_both}
 use Rattle.std.proofs.lemmas.Bool.Decides.{nat_tests}
 use Rattle.lanes.specs.Syntax.{Body}
-use Rattle.lanes.specs.Grid.{Grid, Turn, of, release, Mark, can, turn, turns, marked, marks, marks_at, the_group, the_lane}
-use Rattle.lanes.specs.Race.{race, Races}
+use Rattle.lanes.specs.Grid.{Grid, Turn, of, Mark, can, turn, turns, marked, marks, marks_at, the_group, the_lane}
 use Rattle.lanes.specs.Told.{NoneWrong, Shows, races, missing, told_first}
-use Rattle.lanes.proofs.Crossing.{All}
 use Rattle.lanes.proofs.Rising.{To, marked-to}
 use Rattle.store.specs.declared.Sizes.{Sizes}
 use Rattle.store.specs.declared.Seen.{Seen}
 use Rattle.store.specs.declared.Deed.{Deed}
-use Rattle.store.specs.declared.Deed.TheVariants.{Quiet, Touched, Wrong}
-use Rattle.store.specs.Layout.{base, size, cells_room}
-use Rattle.store.specs.Lent.{grid_of, lane_at, phase_of_spec}
-use Rattle.store.specs.Acts.{Turned, touches_of, went_wrong}
+use Rattle.store.specs.declared.Deed.TheVariants.{Quiet, Touched}
+use Rattle.store.specs.Layout.{size}
+use Rattle.store.specs.Lent.{grid_of, lane_at}
+use Rattle.store.specs.Acts.{touches_of, went_wrong}
 use Rattle.store.proofs.Grids.{the-lane-is, the-phase-is}
 use Rattle.store.proofs.Cells.{spot-lt, spot-same}
 use Rattle.touches.specs.declared.Who.{Who}
 use Rattle.touches.specs.declared.Found.{Found}
-use Rattle.touches.specs.Kept.{mark_of, Among, Rising}
+use Rattle.touches.specs.Kept.{mark_of, Rising}
 use Rattle.touches.specs.Whole as whole
 use Rattle.touches.specs.Whole.{Layout, Laid, Keepable, AllKept}
 use Rattle.machine.specs.declared.outcome.Race.{Race}
-use Rattle.machine.specs.declared.outcome.Outcome.TheVariants.{Raced}
-use Rattle.machine.specs.Sofar.{layout, Sofar, After, Doing, paired_of, first_mark, second_mark}
+use Rattle.machine.specs.Sofar.{layout, Sofar, Doing, paired_of, first_mark, second_mark}
 use Rattle.machine.proofs.Rows.{grid-more, marked_more, right_of}
 use Rattle.machine.proofs.Marks.{among-all, calm_more, shows-earlier, shows_later}
 

@@ -1,19 +1,19 @@
 -- A mask of one lane.
-use Rattle.std.proofs.Common.{◌≡◌, ℕ, zero, suc, ◌+◌, ◌/◌, ◌%◌, ◌^◌, ◌<◌, ◌≤◌, Bool, true, false, eqb, ◌⊎◌, List, [], ◌∷◌, ◌++◌, Some, sym, refl, ap, ◌∙◌, subst, inl, inr, add-zero, arith}
+use Rattle.std.proofs.Common.{◌≡◌, ℕ, zero, suc, ◌/◌, ◌%◌, ◌^◌, ◌<◌, true, eqb, List, [], ◌∷◌, ◌++◌, Some, sym, refl, ap, ◌∙◌, subst, inl, inr, add-zero, arith}
 use native.Mathlib.Nat.{div-eq_of_lt}
 use Rattle.std.proofs.lemmas.Nat.{pow_below}
 use Rattle.std.proofs.lemmas.Bool.{both_ways, cases_lt}
 use Rattle.machine.proofs.Stances.{can-outside}
 use Rattle.lanes.specs.Syntax.{Body}
-use Rattle.lanes.specs.Grid.{Grid, Turn, of, release, can, turn, turns}
+use Rattle.lanes.specs.Grid.{Grid, Turn, of, release, can, turns}
 use Rattle.lanes.proofs.Turns.{turns-append}
 use Rattle.store.specs.declared.Sizes.{Sizes}
-use Rattle.store.specs.Lent.{line_at, grid_of}
+use Rattle.store.specs.Lent.{grid_of}
 use Rattle.machine.specs.Line.{on, row_turns}
 use Rattle.machine.specs.declared.schedule.Choice.{Choice}
 use Rattle.machine.specs.declared.schedule.Choice.TheVariants.{Row, GoOn}
 use Rattle.machine.specs.declared.inturn.InTurn.{InTurn}
-use Rattle.machine.specs.Schedule.{RowCan, CanDo, Passed, Picked, turns_of, come_to}
+use Rattle.machine.specs.Schedule.{RowCan, Passed, Picked, come_to}
 use Rattle.machine.specs.Carried.{Says}
 use Rattle.machine.proofs.Passing.{passed-step, passed-go}
 

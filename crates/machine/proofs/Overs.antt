@@ -1,20 +1,19 @@
 -- What is told where nothing can be done, and that the machine comes there.
-use Rattle.std.proofs.Common.{◌≡◌, ℕ, zero, suc, ◌+◌, ◌-◌, ◌*◌, ◌<◌, ◌≤◌, Bool, true, false, cond, not, ◌&&◌, ◌||◌, ◌⊎◌, List, [], ◌∷◌, ◌++◌, length, get_or, sym, refl, ap, ◌∙◌, subst, inl, inr, add-mul, arith}
+use Rattle.std.proofs.Common.{◌≡◌, ℕ, zero, suc, ◌+◌, ◌-◌, ◌*◌, ◌<◌, ◌≤◌, true, false, ◌⊎◌, List, [], ◌∷◌, length, get_or, sym, refl, ap, ◌∙◌, subst, inl, inr, add-mul, arith}
 use Rattle.std.proofs.lemmas.Nat.{mul-le}
-use Rattle.std.proofs.lemmas.Bool.{cases_Bool, cases_eq, both_ways}
+use Rattle.std.proofs.lemmas.Bool.{cases_eq}
 use Rattle.std.proofs.lemmas.Bool.Decides.{nat_tests}
 use Rattle.lanes.specs.Syntax.{Body, at_barrier, ended}
 use Rattle.lanes.specs.Step.{Lane, stepping}
-use Rattle.lanes.specs.Grid.{Group, Grid, Turn, of, release, can, turn, turns, steps, all_lanes, all_ended, the_group, the_lane, no_group, no_lane}
+use Rattle.lanes.specs.Grid.{Group, Grid, Turn, turns, all_lanes, all_ended, the_group, the_lane, no_group}
 use Rattle.lanes.specs.Promise.{Still}
 use Rattle.lanes.specs.Told.{Shows}
 use Rattle.lanes.proofs.Turns.{turn-idle, turns-append, turns-length}
 use Rattle.store.specs.declared.Sizes.{Sizes}
 use Rattle.store.specs.Lent.{grid_of, memory_of, lane_at, line_at, phase_of_spec, field_of}
-use Rattle.store.proofs.Grids.{the-group-is, the-lane-is, groups-long}
+use Rattle.store.proofs.Grids.{the-lane-is, groups-long}
 use Rattle.machine.specs.declared.verdict.Verdict.{Verdict}
 use Rattle.machine.specs.declared.verdict.Verdict.TheVariants.{Field, Raced, Wrong, Stuck, TooLong}
-use Rattle.machine.specs.Sofar.{Sofar}
 use Rattle.machine.specs.Verdict.{told_of, highest, StandsAt, Stepped, Gone, Over, sum_upto, left_over}
 use Rattle.machine.proofs.Stances.{all_of, lanes-long, lane-left}
 

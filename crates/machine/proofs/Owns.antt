@@ -1,9 +1,9 @@
 -- A cell of a group is touched by that group alone.
-use Rattle.std.proofs.Common.{◌≡◌, ℕ, zero, suc, ◌+◌, ◌<◌, Bool, true, false, cond, not, ◌&&◌, ◌||◌, eqb, ltb, ◌⊎◌, List, [], ◌∷◌, ◌++◌, length, get_or, sym, refl, ap, ◌∙◌, subst, inl, inr, arith}
-use Rattle.std.proofs.lemmas.Bool.{cases_Bool, cases_eq}
+use Rattle.std.proofs.Common.{◌≡◌, ℕ, suc, Bool, true, false, cond, ◌&&◌, ◌||◌, eqb, ◌⊎◌, List, [], ◌∷◌, inl, inr, arith}
+use Rattle.std.proofs.lemmas.Bool.{cases_eq}
 use Rattle.std.proofs.lemmas.Bool.Decides.{nat_tests}
-use Rattle.lanes.specs.Step.{Touch, Lane, Act, act, touched}
-use Rattle.lanes.specs.Grid.{Grid, Turn, of, release, Mark, can, turn, did, marks, marks_at, marked, the_act, the_group}
+use Rattle.lanes.specs.Step.{Touch, Lane, act, touched}
+use Rattle.lanes.specs.Grid.{Grid, Turn, of, release, Mark, can, turn, marks, marks_at, marked, the_act, the_group}
 use Rattle.lanes.specs.Told.{Shows, races}
 use Rattle.lanes.proofs.Crossing.{All}
 use Rattle.lanes.proofs.Runs.{all_append, all-at}

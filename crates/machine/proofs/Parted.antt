@@ -1,21 +1,18 @@
 -- Neighbouring lanes did their line: what the row's lanes did so far, and that of a line which touches no cell.
-use Rattle.std.proofs.Common.{◌≡◌, ℕ, zero, suc, ◌+◌, ◌-◌, ◌*◌, ◌<◌, ◌≤◌, Bool, true, false, cond, eqb, ◌⊎◌, List, [], ◌∷◌, ◌++◌, length, get_or, sym, refl, ap, ◌∙◌, subst, inl, inr, add-zero, add_assoc, add-one, arith}
-use Rattle.lanes.specs.Syntax.{Body, end}
-use Rattle.lanes.specs.Grid.{Grid, Turn, of}
+use Rattle.std.proofs.Common.{◌≡◌, ℕ, zero, suc, ◌+◌, ◌-◌, ◌*◌, ◌<◌, ◌≤◌, true, false, cond, eqb, List, length, get_or, sym, refl, ap, ◌∙◌, subst, inl, inr, add-zero, add_assoc, add-one, arith}
 use Rattle.store.specs.declared.Sizes.{Sizes}
 use Rattle.store.specs.declared.Todo.{Todo}
 use Rattle.store.specs.declared.Todo.TheVariants.{Put, Branch}
 use Rattle.store.specs.declared.Deed.TheVariants.{Quiet}
-use Rattle.store.specs.Layout.{Sized, slots, room, cells_room}
+use Rattle.store.specs.Layout.{Sized, room, cells_room}
 use Rattle.store.specs.Lent.{Lent, phase_of_spec}
-use Rattle.store.specs.Acts.{Did, Ready}
+use Rattle.store.specs.Acts.{Did}
 use Rattle.store.specs.Rows.{slot_row, put_row_spec}
 use Rattle.store.proofs.Deeds.{done-put, done-branch}
 use Rattle.store.proofs.Grids.{only-phase}
 use Rattle.store.proofs.Written.{row-long, two-more, one_more, row_zero}
 use Rattle.machine.specs.declared.outcome.Outcome.{Outcome}
 use Rattle.machine.specs.declared.outcome.Outcome.TheVariants.{Fine, Raced, Wrong}
-use Rattle.machine.specs.Sofar.{Sofar, After, Doing}
 use Rattle.machine.specs.Line.{on}
 use Rattle.machine.specs.Masks.{LaneDid, RowSofar, RowOutcome}
 use Rattle.machine.specs.Spans.{LanesDid, Stops, PartDid}

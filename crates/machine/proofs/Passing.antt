@@ -1,14 +1,14 @@
 -- Nothing before a lane can be done: one more lane, one more group, all; and still so after what is named.
-use Rattle.std.proofs.Common.{◌≡◌, ℕ, zero, suc, ◌+◌, ◌<◌, ◌≤◌, Bool, true, false, ◌≢◌, ◌⊎◌, List, [], ◌∷◌, sym, refl, ap, ◌∙◌, subst, inl, inr, arith}
+use Rattle.std.proofs.Common.{◌≡◌, ℕ, ◌+◌, ◌<◌, ◌≤◌, false, List, ◌∙◌, inl, inr, arith}
 use Rattle.std.proofs.lemmas.Bool.{cases_Bool, cases_eq, cases_lt}
 use Rattle.lanes.specs.Syntax.{Body}
-use Rattle.lanes.specs.Grid.{Grid, Turn, of, release, can, did, turn, turns}
+use Rattle.lanes.specs.Grid.{Grid, Turn, of, release, can, turn}
 use Rattle.lanes.specs.Promise.{Still, Apart}
 use Rattle.lanes.proofs.Turns.{turn-did, turn-idle}
 use Rattle.lanes.proofs.Crossing.{same-can}
 use Rattle.store.specs.declared.Sizes.{Sizes}
 use Rattle.store.specs.Lent.{grid_of}
-use Rattle.machine.specs.Schedule.{Before, Passed}
+use Rattle.machine.specs.Schedule.{Passed}
 use Rattle.machine.proofs.Stances.{can-outside, cannot-outside}
 
 pub passed_none : (n : ℕ) (d : Grid) → Passed n d 0 0

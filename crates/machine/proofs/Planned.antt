@@ -1,19 +1,18 @@
 -- What the step at an entry has the lanes do is what is left there, with the numbers worked out.
-use Rattle.std.proofs.Common.{◌≡◌, ℕ, zero, suc, ◌+◌, ◌*◌, ◌<◌, ◌≤◌, Bool, true, false, cond, ◌&&◌, ltb, ◌⊎◌, List, [], ◌∷◌, ◌++◌, length, get_or, Some, None, Option, sym, refl, ap, ◌∙◌, subst, inl, inr, arith}
-use Rattle.std.proofs.lemmas.Bool.{cases_Bool, ltb-true, lt-ltb, both_ways, and_parts, le-ltb}
-use Rattle.lanes.specs.Syntax.{Body, Expr, end, barrier, at_barrier, ended}
-use Rattle.lanes.specs.Step.{value, stepping}
-use Rattle.grammar.specs.Spelling.{Named}
+use Rattle.std.proofs.Common.{◌≡◌, ℕ, suc, ◌+◌, ◌*◌, Bool, true, false, cond, ltb, List, Some, None, Option, sym, refl, ap, ◌∙◌, subst, inl, inr, arith}
+use Rattle.std.proofs.lemmas.Bool.{ltb-true, lt-ltb, both_ways, le-ltb}
+use Rattle.lanes.specs.Syntax.{Body, Expr, end, at_barrier, ended}
+use Rattle.lanes.specs.Step.{stepping}
 use Rattle.grammar.specs.Stands.{Stands}
 use Rattle.code.specs.declared.step.Step.{Step}
 use Rattle.code.specs.declared.step.Step.TheVariants.{Put, Read, Write, Branch, Jump, Barrier, End}
 use Rattle.code.specs.Code as code
 use Rattle.code.specs.Code.{Does, is_jump}
-use Rattle.code.specs.Words.{step_at, there}
+use Rattle.code.specs.Words.{step_at}
 use Rattle.store.specs.declared.Sizes.{Sizes}
 use Rattle.store.specs.declared.Todo.{Todo}
 use Rattle.store.specs.declared.Todo.TheVariants as todo
-use Rattle.store.specs.Acts.{NextIs, TodoFits, Goes, IfHere, WhileHere}
+use Rattle.store.specs.Acts.{NextIs, TodoFits, Goes}
 use Rattle.machine.specs.declared.line.Plan.{Plan}
 use Rattle.values.specs.Ready.{Ready as Held}
 use Rattle.machine.specs.Prepare.{second_at, ReadyStep}

@@ -1,5 +1,5 @@
 -- A row of turns with one more turn that can be done.
-use Rattle.std.proofs.Common.{◌≡◌, ℕ, zero, suc, ◌+◌, Bool, true, false, ◌⊎◌, List, [], ◌∷◌, ◌++◌, length, get_or, sym, refl, ap, ◌∙◌, subst, inl, inr, append-nil, add-zero, get_or-set_other}
+use Rattle.std.proofs.Common.{◌≡◌, ℕ, zero, suc, ◌+◌, true, false, ◌⊎◌, List, [], ◌∷◌, ◌++◌, get_or, sym, refl, ap, ◌∙◌, subst, inl, inr, append-nil, add-zero, get_or-set_other}
 use Rattle.std.proofs.lemmas.Bool.{cases_eq}
 use Rattle.lanes.specs.Step.{Lane}
 use Rattle.lanes.specs.Grid.{Group, Grid, Turn, of, release, Mark, can, did, turn, turns, marked, marks_at, steps, weight, the_group, the_lane, no_group, no_lane, all_past, gone_on}

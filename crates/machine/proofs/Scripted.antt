@@ -1,8 +1,8 @@
 -- Turns that are written down: what stands at a byte is one thing at most.
-use Rattle.std.proofs.Common.{◌≡◌, ℕ, ◌+◌, ◌-◌, ◌<◌, ◌≤◌, min, Bool, true, false, not, eqb, ◌⊎◌, List, [], ◌∷◌, ◌++◌, length, get_or, take, drop, Some, None, Ok, Err, codes, Option, Result, sym, refl, ap, ◌∙◌, subst, inl, inr, arith, lit≤, MatchOption}
+use Rattle.std.proofs.Common.{◌≡◌, ℕ, ◌+◌, ◌-◌, ◌<◌, ◌≤◌, min, ◌⊎◌, List, [], ◌∷◌, ◌++◌, length, get_or, take, drop, Some, None, Ok, Err, codes, Option, sym, refl, ap, ◌∙◌, subst, inl, inr, arith, lit≤, MatchOption}
 use Rattle.std.proofs.lemmas.List.{drop-drop, length-drop, length-append}
 use Rattle.grammar.specs.declared.refusals.Refusal.{Refusal}
-use Rattle.grammar.specs.Spelling.{digit, each_byte, decimal, IsNumber}
+use Rattle.grammar.specs.Spelling.{digit, each_byte, decimal}
 use Rattle.grammar.specs.Runs.{run_of}
 use Rattle.grammar.specs.Walk.{bytes_at}
 use Rattle.grammar.proofs.Complete.{bytes-done, run-here, part-here}

@@ -1,13 +1,12 @@
 -- Lanes that stand where their jumps lead, and what that is at a barrier.
-use Rattle.std.proofs.Common.{◌≡◌, ℕ, zero, suc, ◌+◌, ◌<◌, ◌≤◌, Bool, true, false, ◌⊎◌, List, sym, refl, ap, ◌∙◌, subst, inl, inr, arith}
-use Rattle.std.proofs.lemmas.Bool.{both_ways, cases_eq, cases_lt}
+use Rattle.std.proofs.Common.{◌≡◌, ℕ, suc, ◌+◌, ◌<◌, ◌≤◌, true, false, ◌⊎◌, List, sym, refl, ap, ◌∙◌, subst, inl, inr, arith}
+use Rattle.std.proofs.lemmas.Bool.{both_ways, cases_eq}
 use Rattle.lanes.specs.Syntax.{Body, barrier, at_barrier}
-use Rattle.lanes.specs.Grid.{release, can, turn}
 use Rattle.grammar.specs.Spelling.{Named}
 use Rattle.code.specs.declared.step.Step.{Step}
 use Rattle.code.specs.declared.step.Step.TheVariants.{Put, Read, Write, Branch, Jump, Barrier, End}
 use Rattle.code.specs.Words.{step_at}
-use Rattle.code.specs.Code.{Does, Goes, Coded, Onward, Settled, is_jump}
+use Rattle.code.specs.Code.{Does, Goes, Onward, Settled, is_jump}
 use Rattle.code.specs.Settle.{Sends}
 use Rattle.store.specs.declared.Sizes.{Sizes}
 use Rattle.store.specs.Layout.{slots}

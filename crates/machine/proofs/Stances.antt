@@ -1,11 +1,10 @@
 -- What the step where a lane stands says of what it can do.
-use Rattle.std.proofs.Common.{◌≡◌, ℕ, zero, suc, ◌+◌, ◌<◌, ◌≤◌, Bool, true, false, cond, not, ◌&&◌, ◌||◌, ltb, ◌⊎◌, List, [], ◌∷◌, length, get_or, sym, refl, ap, ◌∙◌, subst, inl, inr, arith}
+use Rattle.std.proofs.Common.{◌≡◌, ℕ, zero, suc, ◌<◌, ◌≤◌, Bool, true, false, ◌&&◌, ◌⊎◌, List, [], ◌∷◌, length, get_or, refl, inl, inr, arith}
 use Rattle.std.proofs.lemmas.Bool.{lt-ltb, both_ways}
 use Rattle.std.proofs.lemmas.Bool.Decides.{nat_tests}
-use Rattle.lanes.specs.Syntax.{Body, Expr, end, put, read_shared, write_shared, read_all, write_all, barrier, when, while, at_barrier, ended}
+use Rattle.lanes.specs.Syntax.{Body, at_barrier, ended}
 use Rattle.lanes.specs.Step.{Lane, stepping}
-use Rattle.lanes.specs.Grid.{Grid, of, release, can, the_group, the_lane, no_lane, all_lanes}
-use Rattle.grammar.specs.Spelling.{Named}
+use Rattle.lanes.specs.Grid.{of, release, can, the_group, no_lane, all_lanes}
 use Rattle.code.specs.declared.step.Step.{Step}
 use Rattle.code.specs.declared.step.Step.TheVariants.{Put, Read, Write, Branch, Jump, Barrier, End}
 use Rattle.code.specs.Code.{Does, is_jump}
@@ -13,8 +12,6 @@ use Rattle.store.specs.declared.Sizes.{Sizes}
 use Rattle.store.specs.Lent.{grid_of, group_at, lane_at, line_at}
 use Rattle.store.proofs.Upto.{upto-at, upto-length}
 use Rattle.store.proofs.Grids.{the-group-is, the-lane-is, groups-long}
-use Rattle.machine.specs.declared.look.Stance.{Stance}
-use Rattle.machine.specs.declared.look.Stance.TheVariants.{Steps, Waits, Ended}
 use Rattle.machine.specs.Choices.{StanceIs, stance_of_spec}
 
 module _ (N : ℕ → List ℕ → Type 0) (text : List ℕ) (at : ℕ → Body) where

@@ -1,17 +1,16 @@
 -- Lanes are counted by the steps at which they stand.
-use Rattle.std.proofs.Common.{◌≡◌, ℕ, zero, suc, ◌+◌, ◌-◌, ◌/◌, ◌%◌, ◌^◌, ◌<◌, ◌≤◌, Bool, true, false, cond, not, ◌&&◌, eqb, ◌⊎◌, List, length, get_or, take, drop, sym, refl, ap, ◌∙◌, subst, inl, inr, add-zero, mod-eq_of_lt, arith}
+use Rattle.std.proofs.Common.{◌≡◌, ℕ, zero, suc, ◌+◌, ◌-◌, ◌%◌, ◌^◌, ◌<◌, ◌≤◌, Bool, true, false, cond, not, ◌&&◌, eqb, List, get_or, take, drop, sym, refl, ap, ◌∙◌, subst, inl, inr, add-zero, mod-eq_of_lt, arith}
 use native.Mathlib.Nat.{zero-div}
 use Rattle.std.proofs.lemmas.Bool.{both_ways, cases_Bool, cases_eq, eqb-true}
 use Rattle.std.proofs.lemmas.Bool.Decides.{nat_tests}
 use Rattle.lanes.specs.Syntax as body
 use Rattle.lanes.specs.Syntax.{Body, at_barrier}
-use Rattle.lanes.specs.Step.{stepping}
 use Rattle.store.specs.declared.Sizes.{Sizes}
 use Rattle.std.proofs.lemmas.List.{get_or-take, get_or-drop}
-use Rattle.store.specs.Layout.{Sized, slots, place_of, room}
+use Rattle.store.specs.Layout.{Sized, place_of, room}
 use Rattle.store.proofs.Slots.{place-lt, phase-same}
 use Rattle.store.specs.Lent.{slot_of, line_at, phase_of_spec, waiting_of_spec, ended_of}
-use Rattle.store.specs.Counts.{how_many, Counted, Tallied}
+use Rattle.store.specs.Counts.{how_many, Tallied}
 use Rattle.store.proofs.Counts.{many-start, many_more, many-same, many-none, many-few, counted_same}
 use Rattle.machine.specs.declared.look.Stance.{Stance}
 use Rattle.machine.specs.declared.look.Stance.TheVariants.{Steps, Waits, Ended}

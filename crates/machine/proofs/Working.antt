@@ -1,8 +1,6 @@
 -- The numbers that a line works with, for each lane of a row.
-use Rattle.std.proofs.Common.{◌≡◌, ℕ, ◌+◌, ◌-◌, ◌*◌, ◌^◌, ◌<◌, ◌≤◌, min, Bool, List, ◌++◌, length, get_or, sym, refl, ap, ◌∙◌, subst, arith}
+use Rattle.std.proofs.Common.{◌≡◌, ℕ, ◌+◌, ◌<◌, ◌≤◌, Bool, List, ◌++◌, length, sym, ◌∙◌, subst, arith}
 use lib.ListN.{get_or-append}
-use Rattle.lanes.specs.Syntax.{Expr}
-use Rattle.lanes.specs.Step.{value}
 use Rattle.store.specs.declared.Sizes.{Sizes}
 use Rattle.store.specs.declared.Todo.{Todo}
 use Rattle.store.specs.declared.Todo.TheVariants as todo
@@ -10,7 +8,7 @@ use Rattle.store.specs.Layout.{Sized, room, place_of}
 use Rattle.store.specs.Lent.{own_of}
 use Rattle.store.proofs.Slots.{own_at, own_range}
 use Rattle.values.specs.declared.row.Row.{Row}
-use Rattle.values.specs.Rows.{RowFits, Owned, Values}
+use Rattle.values.specs.Rows.{RowFits, Values}
 use Rattle.values.specs.Ready.{Ready, Worth}
 use Rattle.machine.specs.Plans.{Worked, SecondReady, SecondWorked}
 

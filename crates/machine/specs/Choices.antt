@@ -1,8 +1,7 @@
 -- What a lane can do next, as the steps in the lent words tell it, and what a scheduler names.
-use Rattle.std.specs.Prelude.{◌≡◌, ℕ, ◌<◌, Bool, true, false, ◌⊎◌}
-use Rattle.lanes.specs.Syntax.{Body, at_barrier, ended}
+use Rattle.std.specs.Prelude.{◌≡◌, true, false}
+use Rattle.lanes.specs.Syntax.{Body, at_barrier}
 use Rattle.lanes.specs.Step.{stepping}
-use Rattle.lanes.specs.Grid.{Grid, Turn, of, release, can}
 use Rattle.code.specs.declared.step.Step.{Step}
 use Rattle.code.specs.declared.step.Step.TheVariants.{Put, Read, Write, Branch, Jump, Barrier, End}
 use Rattle.machine.specs.declared.look.Stance.{Stance}

@@ -1,5 +1,5 @@
 -- A program as it lies in the lent slices, and a line that the lanes of a mask do.
-use Rattle.std.specs.Prelude.{◌≡◌, ℕ, zero, suc, ◌+◌, ◌*◌, ◌/◌, ◌%◌, ◌^◌, ◌<◌, ◌≤◌, Bool, true, false, cond, List, [], ◌∷◌, ◌++◌, length}
+use Rattle.std.specs.Prelude.{◌≡◌, ℕ, zero, suc, ◌+◌, ◌*◌, ◌<◌, ◌≤◌, true, false, cond, List, [], ◌∷◌, ◌++◌, length}
 use Rattle.lanes.specs.Syntax.{Body}
 use Rattle.lanes.specs.Grid.{Grid, Turn, of, can}
 pub use Rattle.masks.specs.Masks.{on}
@@ -14,7 +14,7 @@ use Rattle.store.specs.Lent.{Lent, Lined, line_at, grid_of}
 use Rattle.store.specs.Counts.{Counted}
 use Rattle.machine.specs.declared.outcome.Outcome.{Outcome}
 use Rattle.machine.specs.declared.outcome.Outcome.TheVariants.{Fine}
-use Rattle.machine.specs.Sofar.{Sofar, After}
+use Rattle.machine.specs.Sofar.{After}
 use Rattle.machine.specs.Prepare.{ReadySteps}
 
 -- The words of steps stand for the text: `at` is what is left at each of the entries and behind the last; own numbers are named ns; and

@@ -1,5 +1,5 @@
 -- The lanes of a row that are in a mask do one line, one after the other, lowest first.
-use Rattle.std.specs.Prelude.{◌≡◌, ℕ, zero, suc, ◌+◌, ◌<◌, ◌≤◌, true, ◌⊎◌, List, [], ◌∷◌, ◌++◌, length, ◌≢◌, slice_index}
+use Rattle.std.specs.Prelude.{◌≡◌, ℕ, suc, ◌+◌, ◌<◌, ◌≤◌, true, ◌⊎◌, List, [], ◌∷◌, ◌++◌, length, ◌≢◌, slice_index}
 use Rattle.lanes.specs.Syntax.{Body, end}
 use Rattle.lanes.specs.Grid.{Grid, Turn, of, can, turn, turns, steps}
 use Rattle.store.specs.declared.Sizes.{Sizes}

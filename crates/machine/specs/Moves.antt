@@ -1,5 +1,5 @@
 -- Lanes that stand where their jumps lead, and a group that goes on.
-use Rattle.std.specs.Prelude.{◌≡◌, ℕ, suc, ◌+◌, ◌<◌, ◌≤◌, Bool, true, List, ◌≢◌}
+use Rattle.std.specs.Prelude.{◌≡◌, ℕ, suc, ◌+◌, ◌<◌, ◌≤◌, true, List, ◌≢◌}
 use Rattle.lanes.specs.Syntax.{Body, barrier}
 use Rattle.lanes.specs.Grid.{release, can, turn}
 use Rattle.code.specs.Words.{step_at}

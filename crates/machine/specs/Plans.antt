@@ -1,5 +1,5 @@
 -- What the step at an entry has the lanes of a mask do, and that they did it.
-use Rattle.std.specs.Prelude.{◌≡◌, ℕ, suc, ◌+◌, ◌<◌, ◌≤◌, Bool, true, false, cond, ◌⊎◌, List, [], ◌∷◌, ◌++◌, length, Some, None, Option, ◌≢◌, nat_lt, slice_index}
+use Rattle.std.specs.Prelude.{◌≡◌, ℕ, suc, ◌+◌, ◌<◌, ◌≤◌, true, cond, ◌⊎◌, List, ◌++◌, length, Some, None, Option, ◌≢◌, nat_lt, slice_index}
 use Rattle.lanes.specs.Syntax.{Body, Expr}
 use Rattle.lanes.specs.Step.{value}
 use Rattle.lanes.specs.Grid.{Grid, Turn, turns, steps}

@@ -1,6 +1,6 @@
 -- Expressions of steps in words of these steps. Of an entry's 16 words the first five and the last are the step and the line of the
 -- text; ten are free, and so is the fifth of a write, which says where its second expression is.
-use Rattle.std.specs.Prelude.{◌≡◌, ℕ, ◌+◌, ◌*◌, ◌<◌, ◌≤◌, List, length, slice_index}
+use Rattle.std.specs.Prelude.{◌≡◌, ℕ, ◌+◌, ◌*◌, ◌<◌, ◌≤◌, List, slice_index}
 use Rattle.code.specs.declared.step.Step.{Step}
 use Rattle.code.specs.declared.step.Step.TheVariants.{Put, Read, Write, Branch, Jump, Barrier, End}
 use Rattle.code.specs.Words.{step_at, text_line_spec}

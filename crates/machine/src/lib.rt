@@ -1,4 +1,6 @@
 // The machine: its schedulers name turns, the executor does them, touches are looked at, and what is told is right.
+#![tactic(auto)]
+
 pub mod ahead;
 pub mod choose;
 pub mod exec;

@@ -1,11 +1,9 @@
 -- Which words of a row are v, bit by bit.
-use Rattle.std.proofs.Common.{◌≡◌, ℕ, zero, suc, ◌+◌, ◌-◌, ◌*◌, ◌/◌, ◌%◌, ◌^◌, ◌<◌, ◌≤◌, Bool, true, false, ◌&&◌, eqb, ltb, ◌⊎◌, List, length, get_or, sym, refl, ap, ◌∙◌, subst, ap₂, inl, inr, add-zero, pow-suc, arith, below_more}
-use lib.Bits.{bit_or, bit_xor}
+use Rattle.std.proofs.Common.{◌≡◌, ℕ, zero, suc, ◌+◌, ◌-◌, ◌*◌, ◌/◌, ◌%◌, ◌^◌, ◌<◌, ◌≤◌, Bool, true, false, ◌&&◌, eqb, ltb, List, length, get_or, sym, refl, ap, ◌∙◌, add-zero, pow-suc, arith}
 use mir.Val.{bool_byte}
-use Rattle.std.proofs.lemmas.Nat.{or_lt, xor_lt}
-use Rattle.std.proofs.lemmas.Bool.{eq-eqb, cases_lt, lt-ltb, le-ltb, cases_Bool}
+use Rattle.std.proofs.lemmas.Bool.{lt-ltb}
 use Rattle.masks.specs.Masks.{on}
-use Rattle.masks.proofs.Bits.{on-zero, on-suc, on-above, or-none, none_differ, ltb-suc}
+use Rattle.masks.proofs.Bits.{on-zero, on-suc, ltb-suc}
 
 -- the bits of a mask with one more below it
 byte_small : (b : Bool) → bool_byte b < 2

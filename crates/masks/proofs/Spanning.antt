@@ -1,11 +1,10 @@
 -- The first span of a mask from a lane on.
-use Rattle.std.proofs.Common.{◌≡◌, ℕ, zero, suc, ◌+◌, ◌-◌, ◌*◌, ◌/◌, ◌%◌, ◌^◌, ◌<◌, ◌≤◌, min, Bool, true, false, not, eqb, ◌⊎◌, sym, refl, ap, ◌∙◌, inl, inr, arith}
+use Rattle.std.proofs.Common.{◌≡◌, ℕ, zero, suc, ◌+◌, ◌-◌, ◌/◌, ◌%◌, ◌^◌, ◌<◌, ◌≤◌, min, Bool, true, false, not, eqb, ◌⊎◌, sym, refl, ap, ◌∙◌, inl, inr, arith}
 use native.Mathlib.Nat.{pow-succ'}
 use lib.Count.{count_trailing_zeros}
 use Rattle.std.proofs.lemmas.Nat.{shr-shr, shr_le, pow_pos}
-use Rattle.std.proofs.lemmas.Bool.{cases_lt, not-false, both_ways}
+use Rattle.std.proofs.lemmas.Bool.{cases_lt, both_ways}
 use Rattle.std.proofs.lemmas.Bool.Decides.{nat_tests}
-use Rattle.masks.specs.declared.spans.Span.{Span}
 use Rattle.masks.specs.Masks.{on}
 use Rattle.masks.specs.Spans.{Spanned}
 use Rattle.masks.proofs.Bits.{on-zero, on-suc}

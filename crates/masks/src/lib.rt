@@ -1,4 +1,6 @@
 // Masks: sets of up to 32 lanes of a row, as bits.
+#![tactic(auto)]
+
 mod spans;
 mod words;
 

@@ -1,4 +1,6 @@
 // Makes a field's bytes of cells in a text.
+#![tactic(auto)]
+
 ghost use Rattle.std.specs.Prelude.{◌≤◌, length, IfOk};
 ghost use Rattle.formats.specs.Field.{InRange};
 

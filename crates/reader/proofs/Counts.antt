@@ -1,9 +1,9 @@
 -- Lines and their lengths: what is spelled in a line has no byte 10.
-use Rattle.std.proofs.Common.{◌≡◌, ℕ, zero, suc, ◌+◌, ◌-◌, ◌<◌, ◌≤◌, Bool, true, false, cond, ◌&&◌, eqb, ltb, ◌⊎◌, List, [], ◌∷◌, ◌++◌, length, get_or, drop, codes, sym, refl, ap, ◌∙◌, inl, inr, arith}
+use Rattle.std.proofs.Common.{◌≡◌, ℕ, suc, ◌+◌, ◌<◌, ◌≤◌, true, false, cond, eqb, ◌⊎◌, List, [], ◌∷◌, ◌++◌, length, drop, refl, ap, ◌∙◌, inl, inr, arith}
 use Rattle.std.proofs.lemmas.Bool.{and_parts, lt-ltb, cases_Bool}
 use Rattle.std.proofs.lemmas.Bool.Decides.{nat_tests}
 use Rattle.lanes.specs.Syntax.{Expr, fixed, var, lane, group, lanes, plus, minus, times, over, rest_of, less, same}
-use Rattle.grammar.specs.Spelling.{letter, digit, word_byte, each_byte, IsName, IsNumber, infix_of, SpellsExpr}
+use Rattle.grammar.specs.Spelling.{digit, word_byte, each_byte, IsName, infix_of, SpellsExpr}
 use Rattle.grammar.specs.Taken.{lines_in, lines_within}
 
 pub lines-append : (u v : List ℕ) → lines_in (u ++ v) ≡ lines_in u + lines_in v

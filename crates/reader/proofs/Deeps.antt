@@ -1,14 +1,14 @@
 -- The lines that are read spell a body.
-use Rattle.std.proofs.Common.{◌≡◌, ℕ, zero, suc, ◌+◌, ◌-◌, ◌<◌, ◌≤◌, max, Bool, true, false, cond, ◌&&◌, eqb, leb, ◌≢◌, ◌⊎◌, List, [], ◌∷◌, ◌++◌, length, get_or, drop, Some, None, Ok, Err, codes, Option, Result, sym, refl, ap, ◌∙◌, subst, inl, inr, arith}
+use Rattle.std.proofs.Common.{◌≡◌, ℕ, zero, suc, ◌+◌, ◌-◌, ◌<◌, ◌≤◌, Bool, true, false, ◌&&◌, eqb, leb, ◌≢◌, ◌⊎◌, List, [], ◌∷◌, ◌++◌, length, drop, Some, Ok, Err, codes, Option, Result, sym, refl, ap, ◌∙◌, subst, inl, inr, arith}
 use Rattle.std.proofs.lemmas.List.{append_assoc, length-append}
-use Rattle.std.proofs.lemmas.Bool.{leb-true, eqb-false, eqb-true, and_left, cases_eq, eq-eqb}
+use Rattle.std.proofs.lemmas.Bool.{leb-true, eqb-false, cases_eq, eq-eqb}
 use Rattle.lanes.specs.Syntax.{Expr, Body, end, put, read_shared, write_shared, read_all, write_all, barrier, when, while}
 use Rattle.lanes.specs.Told.{ExprFits, BodyFits}
 use Rattle.grammar.specs.Spelling.{word_byte, each_byte, IsName, SpellsExpr, SpellsBody}
 use Rattle.grammar.specs.Taken.{lines_in, lines_within, depth}
 use Rattle.grammar.specs.Refusals.{place_of}
 use Rattle.grammar.specs.Lines.{SomeExpr, LineHere}
-use Rattle.grammar.specs.Walk.{key_at, key_of, and_then}
+use Rattle.grammar.specs.Walk.{key_at, key_of}
 use Rattle.grammar.specs.WalkLine.{line_at}
 use Rattle.grammar.specs.declared.refusals.Refusal.{Refusal}
 use Rattle.grammar.specs.declared.refusals.Refusal.TheVariants.{Shape, ManyLines, Deep}
@@ -27,7 +27,7 @@ use Rattle.reader.specs.declared.blocks.Ending.TheVariants.{Text, Else, End}
 use Rattle.reader.specs.declared.blocks.Kind.{Kind}
 use Rattle.reader.specs.declared.blocks.Kind.TheVariants.{Plain, Opens, Loops, Parts, Closes}
 use Rattle.reader.specs.declared.blocks.Stop.{Stop}
-use Rattle.reader.proofs.Counts.{lines-append, lines_cons, lines-nil, word-lines, expr-lines, OneLine, one_line}
+use Rattle.reader.proofs.Counts.{lines-append, word-lines, expr-lines, OneLine, one_line}
 
 never-many : (i : ℕ) (r : Result Lined Refusal) (l : Lined) → too_many i r ≡ Ok l → ⊥
 never-many i (Ok m) l e = not_err (ManyLines i) l e

@@ -1,9 +1,9 @@
 -- Lines in each other that are refused for their shape can go on up to there: what is open is closed.
-use Rattle.std.proofs.Common.{◌≡◌, ℕ, zero, suc, ◌+◌, ◌-◌, ◌<◌, ◌≤◌, Bool, true, false, cond, ◌&&◌, eqb, leb, ◌≢◌, ◌⊎◌, List, [], ◌∷◌, ◌++◌, length, drop, Some, None, Ok, Err, codes, Option, Result, sym, refl, ap, ◌∙◌, inl, inr, arith}
+use Rattle.std.proofs.Common.{◌≡◌, ℕ, zero, suc, ◌+◌, ◌-◌, ◌<◌, ◌≤◌, Bool, true, false, cond, ◌&&◌, eqb, leb, ◌≢◌, ◌⊎◌, List, [], ◌∷◌, ◌++◌, length, drop, Some, Ok, Err, codes, Option, Result, sym, refl, ap, ◌∙◌, inl, inr, arith}
 use Rattle.std.proofs.lemmas.List.{append_assoc, append-nil}
-use Rattle.std.proofs.lemmas.Bool.{leb-true, eqb-false, cases_Bool}
-use Rattle.lanes.specs.Syntax.{Expr, Body, end, put, read_shared, write_shared, read_all, write_all, barrier, when, while, followed}
-use Rattle.grammar.specs.Spelling.{IsName, SpellsBody, AnyName}
+use Rattle.std.proofs.lemmas.Bool.{leb-true, eqb-false}
+use Rattle.lanes.specs.Syntax.{Body, end, put, read_shared, write_shared, read_all, write_all, barrier, when, while, followed}
+use Rattle.grammar.specs.Spelling.{SpellsBody, AnyName}
 use Rattle.grammar.specs.Refusals.{place_of}
 use Rattle.grammar.specs.Runs.{written}
 use Rattle.grammar.specs.Walk.{key_at, and_then}
@@ -17,15 +17,11 @@ use Rattle.grammar.specs.declared.lines.Line.TheVariants as line
 use Rattle.grammar.specs.declared.lines.Lined.{Lined}
 use Rattle.grammar.proofs.Complete.{past}
 use Rattle.grammar.proofs.Sound.{cond_cases, not_err, same_ok}
-use Rattle.grammar.proofs.Goesonline.{then-fails}
-use Rattle.grammar.proofs.Goesonlines.{Shaped}
 use Rattle.grammar.proofs.Goesonfront.{Just, Both, Front, Got, front_map, got_map, front_none, front_first, front_second, got_both, longer}
 use Rattle.grammar.proofs.Goesonbegun.{Bodied, HeadOf, LineOf, front-named, front-line, got-line, not-end-barrier, not-end-when, not-end-while}
-use Rattle.reader.specs.Blocks.{opens, next_at, too_many, block_at, by_kind, kind_of_spec, is_else_spec, must_end_spec, must_end_as, must_loop_spec, must_loop_as}
+use Rattle.reader.specs.Blocks.{opens, next_at, too_many, block_at, by_kind, kind_of_spec, is_else_spec, must_end_spec, must_end_as, must_loop_as}
 use Rattle.reader.specs.declared.blocks.Ending.{Ending}
 use Rattle.reader.specs.declared.blocks.Ending.TheVariants.{Text, Else, End}
-use Rattle.reader.specs.declared.blocks.Kind.{Kind}
-use Rattle.reader.specs.declared.blocks.Kind.TheVariants.{Plain, Opens, Loops, Parts, Closes}
 use Rattle.reader.specs.declared.blocks.Stop.{Stop}
 
 -- lines, or none

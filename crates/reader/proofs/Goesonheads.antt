@@ -1,12 +1,11 @@
 -- A text that is refused for its shape can go on up to there.
-use Rattle.std.proofs.Common.{◌≡◌, ℕ, zero, suc, ◌+◌, ◌-◌, ◌<◌, ◌≤◌, Bool, true, false, cond, eqb, ltb, leb, ◌≢◌, ◌⊎◌, List, [], ◌∷◌, ◌++◌, length, get_or, take, drop, Some, None, Ok, Err, codes, Option, Result, sym, refl, ap, ◌∙◌, inl, inr, arith}
+use Rattle.std.proofs.Common.{◌≡◌, ℕ, zero, suc, ◌+◌, ◌-◌, ◌<◌, ◌≤◌, true, false, cond, eqb, ltb, leb, ◌≢◌, List, [], ◌∷◌, ◌++◌, length, get_or, take, drop, Some, None, Ok, Err, codes, Option, Result, sym, refl, ap, ◌∙◌, inl, inr, arith}
 use Rattle.std.proofs.lemmas.List.{append_assoc, append-nil, length-append, length_push, length-drop, take_at, get_or_past}
-use Rattle.std.proofs.lemmas.Bool.{cases_Bool, cases_lt, leb-true, eqb-true, both_ways}
-use Rattle.lanes.specs.Syntax.{Program, Body, end}
-use Rattle.grammar.specs.Spelling.{letter, digit, word_byte, each_byte, decimal, one_of, IsName, IsNumber, SpellsBody, OwnLine, CellsLine, Spelled, AnyName, Viable}
+use Rattle.std.proofs.lemmas.Bool.{cases_lt, leb-true, eqb-true}
+use Rattle.lanes.specs.Syntax.{Body, end}
+use Rattle.grammar.specs.Spelling.{letter, digit, word_byte, each_byte, decimal, one_of, IsName, IsNumber, SpellsBody, OwnLine, CellsLine, AnyName, Viable}
 use Rattle.grammar.specs.Runs.{run_of, written}
-use Rattle.grammar.specs.Names.{NamesIn}
-use Rattle.grammar.specs.Walk.{word_part, key_at, key_of, bytes_at, number_part, and_then, place_in}
+use Rattle.grammar.specs.Walk.{word_part, key_at, bytes_at, number_part, and_then, place_in}
 use Rattle.grammar.specs.declared.refusals.Refusal.{Refusal}
 use Rattle.grammar.specs.declared.refusals.Refusal.TheVariants.{Shape, Twice, ManyNames, ManyCells, Long}
 use Rattle.grammar.specs.declared.keywords.Keyword.{Keyword}
@@ -15,18 +14,18 @@ use Rattle.grammar.proofs.Walks.{run-each}
 use Rattle.grammar.proofs.Nameds.{place-named, named-name}
 use Rattle.grammar.proofs.Sound.{cond_cases, then-parts, not_err, same_ok, bytes-sound, run-splits, run_length, run-some, key-sound}
 use Rattle.grammar.proofs.Goesonline.{then-fails}
-use Rattle.grammar.proofs.Goesonfront.{Just, Both, Front, Got, front_map, got_map, front_none, front_first, front_second, front_then, got_bytes, front_bytes, front_long, front_key, name-a}
+use Rattle.grammar.proofs.Goesonfront.{Just, Both, Front, Got, front_map, front_none, front_second, front_then, got_bytes, front_bytes, front_long, front_key, name-a}
 use Rattle.grammar.proofs.Goesonbegun.{Bodied}
 use Rattle.reader.specs.Heads.{spaced, is_key, is_own_spec, is_cells_spec, name_at, names_at, own_at, Found, cells_at}
 use Rattle.reader.specs.Blocks.{block_at}
-use Rattle.reader.specs.Texts.{read_at, head_lines_spec, whole, whole_as, shape_of}
+use Rattle.reader.specs.Texts.{read_at, head_lines_spec, whole, whole_as}
 use Rattle.reader.specs.declared.heads.Head.{Head}
 use Rattle.reader.specs.declared.blocks.Ending.{Ending}
 use Rattle.reader.specs.declared.blocks.Ending.TheVariants.{Text, Else, End}
 use Rattle.reader.specs.declared.blocks.Stop.{Stop}
-use Rattle.reader.proofs.Owns.{New, name-sound, own-begins}
-use Rattle.reader.proofs.Whole.{Owned, own-sound, Celled, cells-sound}
-use Rattle.reader.proofs.Goesonclosed.{SomeLines, Walked, Gone, block_walk, word_front, lines_then}
+use Rattle.reader.proofs.Owns.{name-sound, own-begins}
+use Rattle.reader.proofs.Whole.{own-sound, Celled, cells-sound}
+use Rattle.reader.proofs.Goesonclosed.{Gone, block_walk, word_front, lines_then}
 
 -- a key that is there
 key-there : (k : Option Keyword) → is_key k ≡ true → (m : Keyword) × (k ≡ Some m)

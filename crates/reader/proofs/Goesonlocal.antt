@@ -1,29 +1,16 @@
 -- A refusal for a text's shape stands on the bytes up to its place, and on no others.
-use Rattle.std.proofs.Common.{◌≡◌, ℕ, zero, suc, ◌+◌, ◌-◌, ◌<◌, ◌≤◌, Bool, true, false, cond, not, eqb, ltb, leb, ◌≢◌, ◌⊎◌, List, [], ◌∷◌, ◌++◌, length, get_or, take, drop, Some, None, Ok, Err, codes, Option, Result, sym, refl, ap, ◌∙◌, inl, inr, arith}
+use Rattle.std.proofs.Common.{◌≡◌, ℕ, zero, suc, ◌+◌, ◌-◌, ◌<◌, ◌≤◌, true, false, cond, eqb, ltb, leb, List, [], ◌∷◌, ◌++◌, length, get_or, drop, Ok, Err, codes, Result, refl, ap, ◌∙◌, inl, inr, arith}
 use Rattle.std.proofs.lemmas.Bool.{cases_Bool, leb-true, le-leb}
-use Rattle.grammar.specs.Spelling.{letter, digit, word_byte, each_byte, decimal, one_of}
-use Rattle.grammar.specs.Runs.{run_of, written}
-use Rattle.grammar.specs.Walk.{word_part, key_at, key_of, bytes_at, number_part, and_then, place_in}
+use Rattle.grammar.specs.Spelling.{letter, digit, word_byte, one_of}
+use Rattle.grammar.specs.Runs.{run_of}
+use Rattle.grammar.specs.Walk.{word_part, key_at, bytes_at, number_part, and_then}
 use Rattle.grammar.specs.declared.refusals.Refusal.{Refusal}
 use Rattle.grammar.specs.declared.refusals.Refusal.TheVariants.{Shape as No-text, Twice, ManyNames, ManyCells, Long}
-use Rattle.grammar.specs.declared.keywords.Keyword.{Keyword}
-use Rattle.grammar.specs.declared.keywords.Keyword.TheVariants as kw
-use Rattle.grammar.specs.declared.lines.Lined.{Lined}
-use Rattle.grammar.proofs.Complete.{bytes-done, past}
-use Rattle.grammar.proofs.Sound.{cond_cases, then-parts, not_err, same_ok, bytes-sound, run-splits, run_length, key-sound}
+use Rattle.grammar.proofs.Sound.{cond_cases, not_err, same_ok}
 use Rattle.grammar.proofs.Goeson.{Agree, agree_less, agree-drop, run_at, run-least, SameRead, same_end, same_shape, same_then, same_cond, same_from, same_other}
 use Rattle.grammar.proofs.Goesonexpr.{itself, bytes_same}
-use Rattle.grammar.proofs.Goesonline.{next_of, then-fails, Reach, reach-more, key-same, line-reach-ok, line-reach-err}
-use Rattle.reader.specs.Heads.{is_key, is_own_spec, is_cells_spec, name_at, names_at, own_at, Found, cells_at}
-use Rattle.reader.specs.Blocks.{next_at, by_kind, kind_of_spec, block_at}
-use Rattle.reader.specs.Texts.{read_at, head_lines_spec, whole, whole_as, shape_of}
+use Rattle.reader.specs.Heads.{is_key, name_at, names_at, Found}
 use Rattle.reader.specs.declared.heads.Head.{Head}
-use Rattle.reader.specs.declared.blocks.Ending.{Ending}
-use Rattle.reader.specs.declared.blocks.Ending.TheVariants.{Text, Else, End}
-use Rattle.reader.specs.declared.blocks.Stop.{Stop}
-use Rattle.reader.specs.declared.texts.Shape.{Shape}
-use Rattle.reader.proofs.Goesonsame.{stop_at, stop_of, block_same, by-kind-same}
-use Rattle.reader.proofs.Goesonclosed.{next-err, next-ok}
 
 abbrev pub found_of : Found → ℕ
 found_of f = f.next - 1

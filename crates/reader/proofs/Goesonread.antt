@@ -1,14 +1,13 @@
 -- What is refused with number 1 is refused at the first byte at which no text goes on so.
-use Rattle.std.proofs.Common.{◌≡◌, ℕ, ◌+◌, ◌<◌, ◌≤◌, List, ◌++◌, length, get_or, take, Ok, Err, Result, sym, ◌∙◌, arith}
+use Rattle.std.proofs.Common.{◌≡◌, ℕ, ◌+◌, ◌<◌, List, ◌++◌, length, take, Err, Result, sym, ◌∙◌, arith}
 use Rattle.std.proofs.lemmas.List.{get_or_append_left, get_or-take, length-take-le, length-append}
-use Rattle.grammar.specs.Spelling.{Viable}
 use Rattle.grammar.specs.declared.refusals.Refusal.{Refusal}
 use Rattle.grammar.specs.declared.refusals.Refusal.TheVariants.{Shape as No-text}
 use Rattle.grammar.proofs.Goeson.{Agree}
 use Rattle.reader.specs.Goeson.{Goes_on}
 use Rattle.reader.specs.Texts.{read_at}
 use Rattle.reader.specs.declared.texts.Shape.{Shape}
-use Rattle.reader.proofs.Goesonheads.{Begun, read-viable}
+use Rattle.reader.proofs.Goesonheads.{read-viable}
 use Rattle.reader.proofs.Goesonspelled.{read_right}
 use Rattle.reader.proofs.Goesontext.{read_same}
 

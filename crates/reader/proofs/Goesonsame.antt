@@ -1,5 +1,5 @@
 -- Lines in each other are read by the bytes up to where they end, or are refused.
-use Rattle.std.proofs.Common.{◌≡◌, ℕ, zero, suc, ◌+◌, ◌-◌, ◌<◌, ◌≤◌, Bool, true, false, cond, ◌&&◌, eqb, leb, ◌⊎◌, List, [], ◌∷◌, ◌++◌, length, Ok, Err, Option, Result, sym, refl, ap, ◌∙◌, inl, inr, arith}
+use Rattle.std.proofs.Common.{◌≡◌, ℕ, zero, suc, ◌-◌, Bool, true, false, cond, ◌&&◌, eqb, leb, List, length, Ok, Err, Option, Result, sym, refl, ap, ◌∙◌, inl, inr, arith}
 use Rattle.std.proofs.lemmas.Bool.{lt-leb}
 use Rattle.grammar.specs.Refusals.{place_of}
 use Rattle.grammar.specs.Walk.{key_at, and_then}
@@ -10,7 +10,7 @@ use Rattle.grammar.specs.declared.lines.Lined.{Lined}
 use Rattle.grammar.proofs.Sound.{cond_cases, not_err}
 use Rattle.grammar.proofs.Goeson.{Agree, SameRead, same_end, same_shape, same_then, same_cond, same_from, same_other}
 use Rattle.grammar.proofs.Goesonline.{next_of, line_same, key-same, line-reach-ok, line-reach-err}
-use Rattle.reader.specs.Blocks.{opens, next_at, too_many, block_at, by_kind, kind_of_spec, is_else_spec, must_end_spec, must_end_as, must_loop_spec, must_loop_as}
+use Rattle.reader.specs.Blocks.{opens, next_at, too_many, block_at, by_kind, kind_of_spec, is_else_spec, must_end_spec, must_end_as, must_loop_as}
 use Rattle.reader.specs.declared.blocks.Ending.{Ending}
 use Rattle.reader.specs.declared.blocks.Ending.TheVariants.{Text, Else, End}
 use Rattle.reader.specs.declared.blocks.Kind.{Kind}

@@ -1,14 +1,13 @@
 -- A text that has its shape is never refused for it.
-use Rattle.std.proofs.Common.{◌≡◌, ℕ, zero, suc, ◌+◌, ◌-◌, ◌<◌, ◌≤◌, Bool, true, false, cond, eqb, ltb, leb, ◌≢◌, ◌⊎◌, List, [], ◌∷◌, ◌++◌, length, get_or, take, drop, Some, None, Ok, Err, codes, Option, Result, sym, refl, ap, ◌∙◌, inl, inr, arith}
-use Rattle.std.proofs.lemmas.List.{append_assoc, append-nil, length-append, length_push, length-drop}
+use Rattle.std.proofs.Common.{◌≡◌, ℕ, zero, suc, ◌+◌, ◌-◌, ◌<◌, ◌≤◌, true, false, cond, eqb, ltb, leb, ◌≢◌, List, [], ◌∷◌, ◌++◌, length, get_or, take, drop, Some, None, Ok, Err, codes, Option, sym, refl, ap, ◌∙◌, inl, inr, arith}
+use Rattle.std.proofs.lemmas.List.{append_assoc, append-nil, length_push, length-drop}
 use Rattle.std.proofs.lemmas.Bool.{cases_Bool, lt-leb, leb-false, eq-eqb, ne_eqb}
 use Rattle.std.proofs.lemmas.Bool.Decides.{nat_tests}
 use Rattle.lanes.specs.Syntax.{Program, Body, end, put, read_shared, write_shared, read_all, write_all, barrier, when, while}
-use Rattle.grammar.specs.Spelling.{letter, digit, word_byte, each_byte, one_of, decimal, IsName, IsNumber, SpellsBody, OwnLine, CellsLine, Spelled, AnyName}
+use Rattle.grammar.specs.Spelling.{letter, digit, word_byte, each_byte, decimal, IsName, SpellsBody, OwnLine, CellsLine, Spelled, AnyName}
 use Rattle.grammar.specs.Stands.{Apart}
 use Rattle.grammar.specs.Runs.{run_of, written}
-use Rattle.grammar.specs.Walk.{word_part, key_at, key_of, bytes_at, number_part, and_then, place_in}
-use Rattle.grammar.specs.declared.refusals.Refusal.{Refusal}
+use Rattle.grammar.specs.Walk.{word_part, key_at, key_of, bytes_at, and_then, place_in}
 use Rattle.grammar.specs.declared.refusals.Refusal.TheVariants.{Shape as No-text, Twice, ManyNames, ManyCells, Long}
 use Rattle.grammar.specs.declared.keywords.Keyword.{Keyword}
 use Rattle.grammar.specs.declared.keywords.Keyword.TheVariants as kw
@@ -16,12 +15,11 @@ use Rattle.grammar.proofs.Walks.{key-written, key-past}
 use Rattle.grammar.proofs.Scanned.{byte_at}
 use Rattle.grammar.proofs.Complete.{first_byte, past, past-byte, bytes-done, run-here, part-here, key-free, byte_of}
 use Rattle.grammar.proofs.Goesonright.{Good, good-ok, good-other, good-then, good-cond, no-long}
-use Rattle.reader.specs.Heads.{spaced, is_key, is_own_spec, is_cells_spec, name_at, names_at, own_at, Found, cells_at}
+use Rattle.reader.specs.Heads.{spaced, is_own_spec, is_cells_spec, name_at, names_at, own_at, Found, cells_at}
 use Rattle.reader.specs.Blocks.{block_at}
-use Rattle.reader.specs.Texts.{read_at, head_lines_spec, whole, whole_as, shape_of}
+use Rattle.reader.specs.Texts.{read_at, head_lines_spec}
 use Rattle.reader.specs.declared.heads.Head.{Head}
-use Rattle.reader.specs.declared.blocks.Ending.TheVariants.{Text, Else, End}
-use Rattle.reader.specs.declared.blocks.Stop.{Stop}
+use Rattle.reader.specs.declared.blocks.Ending.TheVariants.{Text}
 use Rattle.reader.specs.declared.texts.Shape.{Shape}
 use Rattle.reader.proofs.Goesonwell.{Stopped, body_reads}
 

@@ -1,19 +1,18 @@
 -- A whole text's refusal for its shape stands on the bytes up to its place.
-use Rattle.std.proofs.Common.{◌≡◌, ℕ, zero, suc, ◌+◌, ◌-◌, ◌<◌, ◌≤◌, Bool, true, false, cond, not, eqb, ltb, leb, ◌≢◌, ◌⊎◌, List, [], ◌∷◌, ◌++◌, length, get_or, take, drop, Some, None, Ok, Err, codes, Option, Result, sym, refl, ap, ◌∙◌, inl, inr, arith}
+use Rattle.std.proofs.Common.{◌≡◌, ℕ, suc, ◌+◌, ◌-◌, ◌≤◌, Bool, true, false, leb, ◌⊎◌, List, [], ◌++◌, length, drop, Some, None, Ok, Err, codes, Option, Result, sym, refl, ap, ◌∙◌, inl, inr, arith}
 use Rattle.std.proofs.lemmas.Bool.{cases_Bool}
 use Rattle.grammar.specs.Spelling.{word_byte}
 use Rattle.grammar.specs.Runs.{run_of, written}
-use Rattle.grammar.specs.Walk.{word_part, key_at, key_of, bytes_at, and_then, place_in}
+use Rattle.grammar.specs.Walk.{word_part, key_at, bytes_at, and_then, place_in}
 use Rattle.grammar.specs.declared.refusals.Refusal.{Refusal}
 use Rattle.grammar.specs.declared.refusals.Refusal.TheVariants.{Shape as No-text}
 use Rattle.grammar.specs.declared.keywords.Keyword.{Keyword}
 use Rattle.grammar.specs.declared.keywords.Keyword.TheVariants as kw
-use Rattle.grammar.specs.declared.lines.Lined.{Lined}
 use Rattle.grammar.proofs.Walks.{bytes-more}
 use Rattle.grammar.proofs.Complete.{first_byte, past-byte}
-use Rattle.grammar.proofs.Sound.{cond_cases, then-parts, not_err, same_ok, run-splits, run_length, key-sound}
-use Rattle.grammar.proofs.Goeson.{Agree, agree_less, SameRead}
-use Rattle.grammar.proofs.Goesonexpr.{itself, bytes_same}
+use Rattle.grammar.proofs.Sound.{cond_cases, then-parts, same_ok, run-splits, run_length, key-sound}
+use Rattle.grammar.proofs.Goeson.{Agree}
+use Rattle.grammar.proofs.Goesonexpr.{bytes_same}
 use Rattle.grammar.proofs.Goesonline.{next_of, then-fails, Reach, reach-more, key-same, line-reach-ok, line-reach-err}
 use Rattle.reader.specs.Heads.{is_own_spec, is_cells_spec, names_at, own_at, Found, cells_at}
 use Rattle.reader.specs.Blocks.{next_at, by_kind, kind_of_spec, block_at}

@@ -1,14 +1,14 @@
 -- Lines that have their shape are never refused for it, and are read to where they end.
-use Rattle.std.proofs.Common.{◌≡◌, ℕ, zero, suc, ◌+◌, ◌-◌, ◌<◌, ◌≤◌, Bool, true, false, cond, ◌&&◌, eqb, leb, ◌≢◌, ◌⊎◌, List, [], ◌∷◌, ◌++◌, length, drop, Ok, Err, codes, Option, Result, sym, refl, ap, ◌∙◌, inl, inr, arith}
+use Rattle.std.proofs.Common.{◌≡◌, ℕ, zero, suc, ◌+◌, ◌-◌, ◌<◌, ◌≤◌, Bool, true, false, ◌&&◌, eqb, leb, ◌≢◌, ◌⊎◌, List, [], ◌∷◌, ◌++◌, length, drop, Ok, Err, codes, Option, Result, sym, refl, ap, ◌∙◌, inl, inr, arith}
 use Rattle.std.proofs.lemmas.List.{append_assoc, length-append, length-drop}
 use Rattle.std.proofs.lemmas.Bool.{le-leb, lt-leb, eqb-false, cases_Bool}
 use Rattle.lanes.specs.Syntax.{Expr, Body, end, put, read_shared, write_shared, read_all, write_all, barrier, when, while}
-use Rattle.grammar.specs.Spelling.{IsName, SpellsExpr, SpellsBody, AnyName}
+use Rattle.grammar.specs.Spelling.{SpellsExpr, SpellsBody, AnyName}
 use Rattle.grammar.specs.Refusals.{place_of}
-use Rattle.grammar.specs.Walk.{key_at, and_then}
+use Rattle.grammar.specs.Walk.{key_at}
 use Rattle.grammar.specs.WalkLine.{line_at}
 use Rattle.grammar.specs.declared.refusals.Refusal.{Refusal}
-use Rattle.grammar.specs.declared.refusals.Refusal.TheVariants.{Shape, ManyLines, Deep}
+use Rattle.grammar.specs.declared.refusals.Refusal.TheVariants.{ManyLines, Deep}
 use Rattle.grammar.specs.declared.lines.Line.{Line}
 use Rattle.grammar.specs.declared.lines.Line.TheVariants as line
 use Rattle.grammar.specs.declared.lines.Lined.{Lined}
@@ -17,7 +17,7 @@ use Rattle.grammar.proofs.Goesonright.{Good, good-ok, good-other, good-then, goo
 use Rattle.grammar.proofs.Goesonlines as lines
 use Rattle.grammar.proofs.Goesonlines.{OfKind, Shaped, put-line-right, read-cell-right, read-field-right, write-cell-right, write-field-right, barrier-right, else-right, end-right, if-right, while-right}
 use Rattle.reader.proofs.Goesonsame.{no-many, no-deep}
-use Rattle.reader.specs.Blocks.{opens, next_at, too_many, block_at, by_kind, kind_of_spec, is_else_spec, must_end_spec, must_end_as, must_loop_spec, must_loop_as}
+use Rattle.reader.specs.Blocks.{opens, next_at, too_many, block_at, by_kind, kind_of_spec}
 use Rattle.reader.specs.declared.blocks.Ending.{Ending}
 use Rattle.reader.specs.declared.blocks.Ending.TheVariants.{Text, Else, End}
 use Rattle.reader.specs.declared.blocks.Kind.{Kind}

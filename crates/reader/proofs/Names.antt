@@ -1,6 +1,6 @@
 -- Each way through the lines before the body is what specs/Heads says.
-use Rattle.std.proofs.Common.{◌≡◌, ℕ, zero, suc, ◌+◌, ◌-◌, ◌<◌, ◌≤◌, min, Bool, true, false, cond, eqb, ltb, leb, List, [], ◌∷◌, ◌++◌, length, get_or, take, drop, Some, None, Ok, Err, codes, Option, Result, sym, refl, ap, ◌∙◌, arith}
-use Rattle.std.proofs.lemmas.Bool.{eq-eqb, ne_eqb, le-leb, lt-leb, lt-ltb, le-ltb}
+use Rattle.std.proofs.Common.{◌≡◌, ℕ, zero, suc, ◌+◌, ◌-◌, ◌<◌, ◌≤◌, min, true, false, cond, eqb, ltb, leb, List, [], ◌∷◌, ◌++◌, length, get_or, take, drop, Some, None, Ok, Err, codes, Option, Result, sym, refl, ap, ◌∙◌, arith}
+use Rattle.std.proofs.lemmas.Bool.{le-leb, lt-leb, lt-ltb, le-ltb}
 use Rattle.grammar.specs.Spelling.{letter, digit, word_byte, one_of}
 use Rattle.grammar.specs.Runs.{run_of}
 use Rattle.grammar.specs.Words.{WordEnd}
@@ -9,7 +9,7 @@ use Rattle.grammar.specs.declared.refusals.Refusal.{Refusal}
 use Rattle.grammar.specs.declared.refusals.Refusal.TheVariants.{Shape, Twice, ManyNames, ManyCells, Long}
 use Rattle.grammar.specs.declared.keywords.Keyword.{Keyword}
 use Rattle.grammar.proofs.Walks.{Keyed, key_is, word-end-run}
-use Rattle.reader.specs.Heads.{is_key, is_own_spec, is_cells_spec, name_at, names_at, own_at, Found, counted, cells_at}
+use Rattle.reader.specs.Heads.{is_own_spec, is_cells_spec, name_at, names_at, own_at, counted, cells_at}
 use Rattle.reader.specs.declared.heads.Head.{Head}
 
 module _ (seen : List (List ℕ)) (text : List ℕ) (i : ℕ) where

@@ -1,11 +1,11 @@
 -- Each way through a line of a block is what specs/Blocks says.
-use Rattle.std.proofs.Common.{◌≡◌, ℕ, zero, suc, ◌+◌, ◌-◌, ◌<◌, ◌≤◌, Bool, true, false, cond, ◌&&◌, eqb, leb, List, length, IfOk, Ok, Err, Option, Result, sym, refl, ap, ◌∙◌, arith}
-use Rattle.std.proofs.lemmas.Bool.{eq-eqb, ne_eqb, le-leb, lt-leb, cases_lt}
+use Rattle.std.proofs.Common.{◌≡◌, ℕ, zero, suc, ◌-◌, ◌<◌, ◌≤◌, Bool, true, false, cond, ◌&&◌, eqb, List, length, IfOk, Ok, Err, Option, Result, sym, refl, ap, ◌∙◌, arith}
+use Rattle.std.proofs.lemmas.Bool.{eq-eqb, ne_eqb, le-leb, lt-leb}
 use Rattle.grammar.specs.Refusals.{place_of}
 use Rattle.grammar.specs.Walk.{key_at, and_then}
 use Rattle.grammar.specs.WalkLine.{line_at}
 use Rattle.grammar.specs.declared.refusals.Refusal.{Refusal}
-use Rattle.grammar.specs.declared.refusals.Refusal.TheVariants.{Shape, ManyLines, Deep}
+use Rattle.grammar.specs.declared.refusals.Refusal.TheVariants.{ManyLines, Deep}
 use Rattle.grammar.specs.declared.lines.Lined.{Lined}
 use Rattle.reader.specs.Blocks.{opens, next_at, block_at, by_kind, kind_of_spec, must_end_spec, must_end_as, must_loop_spec, must_loop_as}
 use Rattle.reader.specs.declared.blocks.Ending.{Ending}

@@ -1,19 +1,18 @@
 -- The names that are read are names, no two of them the same, and they stand in the text's first line.
-use Rattle.std.proofs.Common.{◌≡◌, ℕ, zero, suc, ◌+◌, ◌-◌, ◌<◌, ◌≤◌, Bool, true, false, cond, ◌||◌, eqb, leb, ◌≢◌, ◌⊎◌, List, [], ◌∷◌, ◌++◌, length, get_or, take, drop, Some, None, Ok, Err, codes, Option, Result, sym, refl, ap, ◌∙◌, subst, inl, inr, add-zero, arith}
-use Rattle.std.proofs.lemmas.List.{append_assoc, length-append, get_or_append_left, get_or_push, length_push, drop-drop, get_or-drop, get_or-take, take-append-drop}
-use Rattle.std.proofs.lemmas.Bool.{both_ways, cases_lt, eqb-true, eq-eqb, ne_eqb, leb-false, or_parts, or_from}
-use Rattle.grammar.specs.Spelling.{letter, word_byte, each_byte, same_bytes, one_of, keywords, IsName}
+use Rattle.std.proofs.Common.{◌≡◌, ℕ, zero, suc, ◌+◌, ◌-◌, ◌<◌, ◌≤◌, Bool, true, false, cond, eqb, leb, List, [], ◌∷◌, ◌++◌, length, get_or, drop, Some, None, Ok, codes, Option, sym, refl, ap, ◌∙◌, subst, inl, inr, add-zero, arith}
+use Rattle.std.proofs.lemmas.List.{append_assoc, get_or_append_left, get_or_push, length_push, drop-drop, get_or-drop, get_or-take, take-append-drop}
+use Rattle.std.proofs.lemmas.Bool.{both_ways, cases_lt, eqb-true, eq-eqb, ne_eqb, leb-false, or_parts}
+use Rattle.grammar.specs.Spelling.{letter, word_byte, same_bytes, one_of, keywords, IsName}
 use Rattle.grammar.specs.Stands.{Apart}
-use Rattle.grammar.specs.Runs.{run_of, written}
+use Rattle.grammar.specs.Runs.{run_of}
 use Rattle.grammar.specs.Taken.{Distinct}
 use Rattle.grammar.specs.Walk.{word_part, key_at, key_of, bytes_at, and_then}
-use Rattle.grammar.specs.declared.refusals.Refusal.{Refusal}
-use Rattle.grammar.specs.declared.refusals.Refusal.TheVariants.{Shape, Twice, ManyNames}
+use Rattle.grammar.specs.declared.refusals.Refusal.TheVariants.{Shape}
 use Rattle.grammar.specs.declared.keywords.Keyword.{Keyword}
 use Rattle.grammar.specs.declared.keywords.Keyword.TheVariants.{Own, Cells, Cell, Field, Barrier, If, Else, End, While, Lane, Group, Lanes}
 use Rattle.grammar.proofs.Walks.{same-decides, run-each, run-apart}
 use Rattle.grammar.proofs.Sound.{cond_cases, then-parts, not_err, same_ok, bytes-sound, run-splits, run_length, run-some, key-sound, peel}
-use Rattle.reader.specs.Heads.{Words, spaced, is_key, is_own_spec, name_at, names_at, own_at, Found}
+use Rattle.reader.specs.Heads.{Words, spaced, is_key, is_own_spec, name_at, names_at, Found}
 use Rattle.reader.proofs.Names.{names-step}
 
 -- what is no word of the language is free

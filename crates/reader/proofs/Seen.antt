@@ -1,14 +1,12 @@
 -- Walking over the names seen so far.
-use Rattle.std.proofs.Common.{◌≡◌, ℕ, zero, suc, ◌+◌, ◌-◌, ◌<◌, ◌≤◌, Bool, true, false, cond, ◌||◌, ◌⊎◌, List, [], ◌∷◌, ◌++◌, length, get_or, take, drop, sym, refl, ap, ◌∙◌, inl, inr, add-zero, arith}
-use Rattle.std.specs.List.{between}
-use Rattle.std.proofs.lemmas.List.{append_assoc, drop_more, drop_all, drop-drop, drop_at, take_at, get_or-drop, length-drop}
-use Rattle.std.proofs.lemmas.Bool.{cases_Bool}
-use Rattle.grammar.specs.Spelling.{word_byte, each_byte, same_bytes, one_of}
+use Rattle.std.proofs.Common.{◌≡◌, ℕ, ◌+◌, ◌-◌, ◌<◌, ◌≤◌, true, false, List, [], ◌∷◌, ◌++◌, length, get_or, take, drop, sym, refl, ap, ◌∙◌, arith}
+use Rattle.std.proofs.lemmas.List.{append_assoc, drop_more, drop_all, take_at, length-drop}
+use Rattle.grammar.specs.Spelling.{one_of}
 use Rattle.grammar.specs.Stands.{Apart}
 use Rattle.grammar.specs.Words.{WordEnd}
 use Rattle.grammar.proofs.Scanned.{word-ends}
 use Rattle.grammar.proofs.Walks.{same-decides, same_not}
-use Rattle.grammar.proofs.Complete.{past, past-byte, first_byte}
+use Rattle.grammar.proofs.Complete.{past, past-byte}
 use Rattle.reader.specs.Heads.{Words, spaced}
 
 pub one-here : (n : List ℕ) (ns : List (List ℕ)) (u : List ℕ) → n ≡ u → one_of (n ∷ ns) u ≡ true

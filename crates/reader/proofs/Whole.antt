@@ -1,22 +1,20 @@
 -- A text that is read is a program within the limits.
-use Rattle.std.proofs.Common.{◌≡◌, ℕ, zero, suc, ◌+◌, ◌-◌, ◌*◌, ◌<◌, ◌≤◌, Bool, true, false, cond, eqb, ltb, leb, ◌≢◌, ◌⊎◌, List, [], ◌∷◌, ◌++◌, length, get_or, take, drop, Some, None, Ok, Err, codes, Option, Result, sym, refl, ap, ◌∙◌, subst, inl, inr, arith}
-use Rattle.std.proofs.lemmas.List.{append_assoc, append-nil, length-append, take-append-drop, drop_all, length-drop, drop-drop}
+use Rattle.std.proofs.Common.{◌≡◌, ℕ, suc, ◌+◌, ◌-◌, ◌*◌, ◌<◌, ◌≤◌, Bool, true, false, cond, ltb, ◌≢◌, List, [], ◌∷◌, ◌++◌, length, get_or, take, drop, Some, Ok, Err, codes, Result, sym, refl, ap, ◌∙◌, subst, inl, inr, arith}
+use Rattle.std.proofs.lemmas.List.{append_assoc, append-nil, length-append, take-append-drop, drop_all}
 use Rattle.std.proofs.lemmas.Bool.{lt-ltb, le-ltb, ltb-false, cases_lt}
-use Rattle.lanes.specs.Syntax.{Program, Body}
-use Rattle.grammar.specs.Spelling.{digit, word_byte, each_byte, IsName, IsNumber, OwnLine, CellsLine, Named, Spelled, SpellsBody}
-use Rattle.grammar.specs.Taken.{Taken, Distinct, lines_in, lines_within}
+use Rattle.lanes.specs.Syntax.{Program}
+use Rattle.grammar.specs.Spelling.{digit, word_byte, each_byte, IsName, OwnLine, CellsLine, Named, Spelled, SpellsBody}
+use Rattle.grammar.specs.Taken.{Distinct, lines_in, lines_within}
 use Rattle.grammar.specs.Names.{NamesIn}
 use Rattle.grammar.specs.Runs.{run_of}
-use Rattle.grammar.specs.Walk.{key_at, key_of, word_part, bytes_at, number_part, and_then, place_in}
+use Rattle.grammar.specs.Walk.{key_at, key_of, bytes_at, number_part, place_in}
 use Rattle.grammar.specs.declared.refusals.Refusal.{Refusal}
-use Rattle.grammar.specs.declared.refusals.Refusal.TheVariants.{ManyCells, Long}
-use Rattle.grammar.specs.declared.refusals.Refusal.TheVariants as no
 use Rattle.grammar.specs.declared.keywords.Keyword.TheVariants as kw
 use Rattle.grammar.proofs.Walks.{key-written, run-each}
 use Rattle.grammar.proofs.Nameds.{place-named, named-name}
 use Rattle.grammar.proofs.Complete.{part-here}
 use Rattle.grammar.proofs.Sound.{cond_cases, then-parts, not_err, same_ok, bytes-sound, run-splits, run_length, run-some}
-use Rattle.reader.specs.Heads.{spaced, Found, counted, is_own_spec, is_cells_spec, names_at, own_at, cells_at}
+use Rattle.reader.specs.Heads.{spaced, Found, counted, is_own_spec, is_cells_spec, own_at, cells_at}
 use Rattle.reader.specs.Blocks.{block_at}
 use Rattle.reader.specs.Texts.{head_lines_spec, whole, whole_as, shape_of, read_at, ReadAs}
 use Rattle.reader.specs.declared.heads.Head.{Head}
@@ -25,8 +23,8 @@ use Rattle.reader.specs.declared.blocks.Ending.TheVariants.{Text, Else, End}
 use Rattle.reader.specs.declared.blocks.Stop.{Stop}
 use Rattle.reader.specs.declared.texts.Shape.{Shape}
 use Rattle.reader.proofs.Owns.{own-begins, walk_start, names-sound, LineOf}
-use Rattle.reader.proofs.Counts.{lines-append, lines_cons, lines-nil, word-lines, digit-lines, OneLine, one_line}
-use Rattle.reader.proofs.Deeps.{Block, block-sound, EndsAs}
+use Rattle.reader.proofs.Counts.{lines-append, lines_cons, lines-nil, word-lines, digit-lines, one_line}
+use Rattle.reader.proofs.Deeps.{block-sound, EndsAs}
 
 -- names behind spaces: few bytes, no byte 10
 spaced-free : (ns : List (List ℕ)) → ((k : ℕ) → k < length ns → IsName (get_or ns k [])) → lines_in (spaced ns) ≡ 0

@@ -1,13 +1,13 @@
 -- A text that spells a program within the limits is read.
-use Rattle.std.proofs.Common.{◌≡◌, ℕ, zero, suc, ◌+◌, ◌-◌, ◌<◌, ◌≤◌, Bool, true, false, cond, ◌||◌, eqb, ltb, leb, ◌≢◌, ◌⊎◌, List, [], ◌∷◌, ◌++◌, length, get_or, take, drop, Some, None, Ok, Err, codes, Option, Result, sym, refl, ap, ◌∙◌, inl, inr, arith}
+use Rattle.std.proofs.Common.{◌≡◌, ℕ, zero, suc, ◌+◌, ◌-◌, ◌<◌, ◌≤◌, true, false, cond, eqb, ◌≢◌, List, [], ◌∷◌, ◌++◌, length, get_or, drop, Some, None, Ok, codes, Option, Result, sym, refl, ap, ◌∙◌, inl, inr, arith}
 use Rattle.std.proofs.lemmas.List.{append_assoc, append-nil, length-append, length-drop, get_or_append_left}
 use Rattle.std.proofs.lemmas.Bool.{cases_Bool, lt-leb, le-ltb, eq-eqb, ne_eqb}
 use Rattle.lanes.specs.Syntax.{Program, Body, end, put, read_shared, write_shared, read_all, write_all, barrier, when, while}
-use Rattle.grammar.specs.Spelling.{letter, digit, word_byte, each_byte, same_bytes, one_of, decimal, IsName, IsNumber, SpellsBody, OwnLine, CellsLine, Spelled, Named}
+use Rattle.grammar.specs.Spelling.{letter, digit, word_byte, each_byte, same_bytes, one_of, decimal, IsName, SpellsBody, OwnLine, CellsLine, Named}
 use Rattle.grammar.specs.Stands.{Apart}
 use Rattle.grammar.specs.Taken.{Taken, Distinct, lines_in, lines_within}
 use Rattle.grammar.specs.Runs.{run_of, written}
-use Rattle.grammar.specs.Walk.{word_part, key_at, key_of, bytes_at, number_part, and_then, place_in}
+use Rattle.grammar.specs.Walk.{word_part, key_at, key_of, number_part, place_in}
 use Rattle.grammar.specs.declared.refusals.Refusal.{Refusal}
 use Rattle.grammar.specs.declared.keywords.Keyword.{Keyword}
 use Rattle.grammar.specs.declared.keywords.Keyword.TheVariants as kw
@@ -15,16 +15,15 @@ use Rattle.grammar.proofs.Walks.{key-written, key-past, same-decides}
 use Rattle.grammar.proofs.Scanned.{byte_at}
 use Rattle.grammar.proofs.Nameds.{named-place}
 use Rattle.grammar.proofs.Complete.{first_byte, past, past-byte, bytes-done, run-here, part-here, key-free, byte_of}
-use Rattle.reader.specs.Heads.{spaced, is_key, is_own_spec, is_cells_spec, name_at, names_at, own_at, Found, cells_at}
+use Rattle.reader.specs.Heads.{spaced, is_own_spec, is_cells_spec, name_at, names_at, own_at, Found, cells_at}
 use Rattle.reader.specs.Blocks.{block_at}
-use Rattle.reader.specs.Texts.{read_at, head_lines_spec, whole, whole_as, shape_of, EveryRead}
+use Rattle.reader.specs.Texts.{read_at, head_lines_spec, shape_of, EveryRead}
 use Rattle.reader.specs.declared.heads.Head.{Head}
-use Rattle.reader.specs.declared.blocks.Ending.TheVariants.{Text, Else, End}
-use Rattle.reader.specs.declared.blocks.Stop.{Stop}
+use Rattle.reader.specs.declared.blocks.Ending.TheVariants.{Text}
 use Rattle.reader.specs.declared.texts.Shape.{Shape}
 use Rattle.reader.proofs.Counts.{lines-append, digit-lines}
 use Rattle.reader.proofs.Whole.{own-sound, cells-sound, Owned, Celled}
-use Rattle.reader.proofs.Wholelines.{Room, Ended, Stopped, short_back, body_reads}
+use Rattle.reader.proofs.Wholelines.{Room, Ended, short_back, body_reads}
 
 -- a name among those seen has a place there
 seen_at : (ns : List (List ℕ)) (u : List ℕ) → one_of ns u ≡ true → (k : ℕ) × (k < length ns) × (get_or ns k [] ≡ u)

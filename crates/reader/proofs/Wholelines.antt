@@ -1,31 +1,27 @@
 -- Lines that spell a body within the limits are read, to where they end.
-use Rattle.std.proofs.Common.{◌≡◌, ℕ, zero, suc, ◌+◌, ◌-◌, ◌<◌, ◌≤◌, max, Bool, true, false, cond, ◌&&◌, eqb, ltb, leb, ◌≢◌, ◌⊎◌, List, [], ◌∷◌, ◌++◌, length, drop, Some, None, Ok, Err, codes, Option, Result, sym, refl, ap, ◌∙◌, inl, inr, arith}
+use Rattle.std.proofs.Common.{◌≡◌, ℕ, zero, suc, ◌+◌, ◌-◌, ◌<◌, ◌≤◌, Bool, true, false, cond, ◌&&◌, eqb, ltb, leb, ◌≢◌, ◌⊎◌, List, [], ◌∷◌, ◌++◌, length, drop, Some, None, Ok, codes, Option, Result, sym, refl, ap, ◌∙◌, inl, inr, arith}
 use Rattle.std.proofs.lemmas.List.{append_assoc, length-append, length-drop}
-use Rattle.std.proofs.lemmas.Bool.{le-leb, lt-leb, ne_eqb, and_parts, ltb-true, cases_Bool}
+use Rattle.std.proofs.lemmas.Bool.{le-leb, lt-leb, ne_eqb, and_parts, ltb-true}
 use Rattle.lanes.specs.Syntax.{Expr, Body, end, put, read_shared, write_shared, read_all, write_all, barrier, when, while}
 use Rattle.lanes.specs.Told.{ExprFits, BodyFits}
 use Rattle.grammar.specs.Spelling.{word_byte, each_byte, IsName, SpellsExpr, SpellsBody}
 use Rattle.grammar.specs.Stands.{Apart}
 use Rattle.grammar.specs.Taken.{depth, lines_in, lines_within}
-use Rattle.grammar.specs.Runs.{written}
-use Rattle.grammar.specs.Lines.{SomeExpr, LineHere}
+use Rattle.grammar.specs.Lines.{LineHere}
 use Rattle.grammar.specs.Walk.{key_at, key_of, and_then}
-use Rattle.grammar.specs.WalkLine.{line_at}
 use Rattle.grammar.specs.declared.refusals.Refusal.{Refusal}
 use Rattle.grammar.specs.declared.keywords.Keyword.{Keyword}
 use Rattle.grammar.specs.declared.keywords.Keyword.TheVariants as kw
 use Rattle.grammar.specs.declared.lines.Line.{Line}
 use Rattle.grammar.specs.declared.lines.Line.TheVariants as line
-use Rattle.grammar.specs.declared.lines.Lined.{Lined}
 use Rattle.grammar.proofs.Walks.{key-written}
 use Rattle.grammar.proofs.Complete.{past, past-byte, part-here, key-free}
 use Rattle.grammar.proofs.Linehere.{line-done}
-use Rattle.reader.proofs.Counts.{lines-append, lines_cons, lines_end, lines-nil, word-lines, expr-lines}
-use Rattle.reader.specs.Blocks.{opens, next_at, block_at, by_kind, kind_of_spec, is_else_spec, must_end_spec, must_end_as, must_loop_spec, must_loop_as}
+use Rattle.reader.proofs.Counts.{lines-append, lines_cons, lines_end, word-lines, expr-lines}
+use Rattle.reader.specs.Blocks.{opens, next_at, block_at, by_kind, kind_of_spec, must_end_spec}
 use Rattle.reader.specs.declared.blocks.Ending.{Ending}
 use Rattle.reader.specs.declared.blocks.Ending.TheVariants.{Text, Else, End}
-use Rattle.reader.specs.declared.blocks.Kind.{Kind}
-use Rattle.reader.specs.declared.blocks.Kind.TheVariants.{Plain, Opens, Loops, Parts, Closes}
+use Rattle.reader.specs.declared.blocks.Kind.TheVariants.{Plain, Opens}
 use Rattle.reader.specs.declared.blocks.Stop.{Stop}
 
 -- a line within the limit

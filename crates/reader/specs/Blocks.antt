@@ -1,5 +1,5 @@
 -- Reading lines in each other, step by step: what the code does, as functions.
-use Rattle.std.specs.Prelude.{ℕ, zero, suc, ◌+◌, ◌-◌, Bool, true, false, cond, ◌&&◌, List, length, Some, None, Ok, Err, Option, Result, ◌==◌, nat_le}
+use Rattle.std.specs.Prelude.{ℕ, zero, suc, ◌-◌, Bool, true, false, cond, ◌&&◌, List, length, Some, None, Ok, Err, Option, Result, ◌==◌, nat_le}
 use Rattle.grammar.specs.Refusals.{place_of}
 use Rattle.grammar.specs.Walk.{key_at, and_then}
 use Rattle.grammar.specs.WalkLine.{line_at}

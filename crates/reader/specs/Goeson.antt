@@ -1,5 +1,5 @@
 -- The first byte at which no text goes on so.
-use Rattle.std.specs.Prelude.{◌≡◌, ℕ, ◌+◌, ◌<◌, ◌≤◌, List, length, take}
+use Rattle.std.specs.Prelude.{ℕ, ◌+◌, ◌<◌, ◌≤◌, List, length, take}
 use Rattle.lanes.specs.Syntax.{Program}
 use Rattle.grammar.specs.Spelling.{Spelled, AnyName, Viable}
 

@@ -1,5 +1,5 @@
 -- A text that is read: its program, and the limits that it keeps.
-use Rattle.std.specs.Prelude.{◌≡◌, ℕ, ◌+◌, ◌-◌, Bool, true, false, cond, List, [], ◌∷◌, ◌++◌, length, drop, Ok, Err, Result, nat_lt}
+use Rattle.std.specs.Prelude.{◌≡◌, ℕ, ◌+◌, ◌-◌, false, cond, List, length, drop, Ok, Err, Result, nat_lt}
 use Rattle.lanes.specs.Syntax.{Program}
 use Rattle.grammar.specs.Spelling.{SpellsBody, Named}
 use Rattle.grammar.specs.Taken.{Taken, lines_in}

@@ -1,5 +1,5 @@
 -- Rows in lockstep at the beginning, and at the end.
-use Rattle.std.proofs.Common.{◌≡◌, ℕ, zero, suc, ◌+◌, ◌*◌, ◌<◌, ◌≤◌, min, Bool, true, false, not, ◌&&◌, ◌||◌, ◌⊎◌, List, [], ◌∷◌, length, get_or, sym, refl, ap, ◌∙◌, subst, inl, inr, arith}
+use Rattle.std.proofs.Common.{◌≡◌, ℕ, zero, suc, ◌+◌, ◌<◌, ◌≤◌, Bool, true, false, not, ◌||◌, ◌⊎◌, List, [], ◌∷◌, length, get_or, sym, refl, ap, ◌∙◌, subst, inl, inr, arith}
 use Rattle.std.proofs.lemmas.Bool.{both_ways, and_parts}
 use Rattle.lanes.specs.Syntax.{Body, end, put, read_shared, write_shared, read_all, write_all, barrier, when, while, at_barrier, ended}
 use Rattle.lanes.specs.Step.{Lane, stepping}
@@ -14,7 +14,7 @@ use Rattle.store.specs.Layout.{slots}
 use Rattle.store.specs.Lent.{slot_of, line_at, grid_of}
 use Rattle.store.proofs.Grids.{groups-long}
 use Rattle.joins.specs.declared.Join.{Join}
-use Rattle.joins.specs.Stack.{RowAt, width_of, join_at, depth_of, down_from, stack_of}
+use Rattle.joins.specs.Stack.{RowAt, width_of, join_at, stack_of}
 use Rattle.joins.specs.Story.{Happened, place, open_joins}
 use Rattle.joins.specs.Matched.{AreOpen}
 use Rattle.joins.proofs.Stackframes.{depth_is, stack_is}

@@ -1,23 +1,22 @@
 -- What was seen of a row is fair after its story.
-use Rattle.std.proofs.Common.{◌≡◌, ℕ, zero, suc, ◌+◌, ◌<◌, ◌≤◌, Bool, true, false, cond, not, ◌&&◌, ◌||◌, eqb, ◌⊎◌, List, [], ◌∷◌, length, Some, None, Option, sym, refl, ap, ◌∙◌, subst, inl, inr, arith}
+use Rattle.std.proofs.Common.{◌≡◌, ℕ, ◌<◌, ◌≤◌, true, false, not, ◌&&◌, List, [], ◌∷◌, length, Some, None, Option, sym, refl, ap, ◌∙◌, subst, inl, inr, arith}
 use Rattle.std.specs.List.{AllByRecursion as All}
-use Rattle.std.proofs.lemmas.Bool.{cases_Bool, cases_eq, cases_order, both_ways, eqb-true, eq-eqb, and_parts}
+use Rattle.std.proofs.lemmas.Bool.{cases_eq, cases_order, both_ways, eqb-true, eq-eqb, and_parts}
 use Rattle.std.proofs.lemmas.Bool.Decides.{nat_tests}
 use Rattle.masks.specs.Masks.{on}
 use Rattle.code.specs.declared.step.Step.{Step}
 use Rattle.code.specs.Code.{is_loop}
 use Rattle.code.specs.Settle.{Leads}
-use Rattle.code.specs.Joins.{is_branch, JoinsAt, Regions}
+use Rattle.code.specs.Joins.{is_branch, Regions}
 use Rattle.joins.specs.declared.Join.{Join}
 use Rattle.joins.specs.Stack.{down_from, leaves}
-use Rattle.joins.specs.Story.{Story, Event, did, parted, went, passed, place, partings, Open, leave, open_joins, topmost, OwnJoin, HasCome, Held, CouldStep, DoLine, Fair, FairDid, FairParted, FairWent, Falls, Sound, Kept, is_act_spec}
+use Rattle.joins.specs.Story.{Story, place, partings, Open, leave, open_joins, OwnJoin, HasCome, Held, DoLine, FairDid, FairParted, FairWent, Falls, Sound, Kept, is_act_spec}
 use Rattle.joins.specs.Matched.{AreOpen, IsOpen, open_at, LeftByPlace}
-use Rattle.joins.proofs.Leaves.{top-has}
 use Rattle.joins.proofs.Stacklists.{down-length}
-use Rattle.joins.proofs.Sounds.{some-on, sound-top}
+use Rattle.joins.proofs.Sounds.{some-on}
 use Rattle.joins.proofs.Matches.{open-here, open-below, open_order, are-deep, at_place, still-place, come-place, place-come, own-place, place-own, left-by-place}
 use Rattle.rows.specs.declared.pick.Party.{Party}
-use Rattle.rows.specs.Looks.{Newest, InNone, HeldAt, InBranch, RowDoes, MayLeave}
+use Rattle.rows.specs.Looks.{Newest, HeldAt, InBranch, RowDoes, MayLeave}
 use Rattle.rows.specs.Turns.{is_own_spec, opens}
 use Rattle.rows.proofs.Looking.{newest-one}
 

@@ -1,15 +1,15 @@
 -- A row of which nothing has changed: its story is the same, and no lane is held that was not.
-use Rattle.std.proofs.Common.{◌≡◌, ℕ, zero, suc, ◌+◌, ◌<◌, ◌≤◌, Bool, true, false, ◌⊎◌, List, [], ◌∷◌, length, sym, refl, ap, ◌∙◌, subst, inl, inr, arith}
+use Rattle.std.proofs.Common.{◌≡◌, ℕ, zero, suc, ◌+◌, ◌<◌, true, false, List, length, sym, refl, ap, ◌∙◌, subst, inl, inr, arith}
 use Rattle.std.proofs.lemmas.Bool.{cases_eq}
 use Rattle.masks.specs.Masks.{on}
 use Rattle.lanes.specs.Grid.{Turn}
 use Rattle.code.specs.Words.{step_at}
 use Rattle.store.specs.declared.Sizes.{Sizes}
-use Rattle.store.specs.Lent.{line_at, slot_of}
+use Rattle.store.specs.Lent.{line_at}
 use Rattle.joins.specs.declared.Join.{Join}
 use Rattle.joins.specs.Stack.{RowAt, width_of, join_at, depth_of, down_from, stack_of, Stacked}
 use Rattle.joins.specs.Story.{open_joins}
-use Rattle.joins.specs.Matched.{AreOpen, Newest}
+use Rattle.joins.specs.Matched.{AreOpen}
 use Rattle.machine.specs.Carried.{AsideOnly}
 use Rattle.rows.specs.Looks.{HeldAt}
 use Rattle.rows.specs.Stories.{RowStory, Free}

@@ -1,8 +1,7 @@
 -- What rows in lockstep know, from one row to the next.
-use Rattle.std.proofs.Common.{◌≡◌, ℕ, zero, suc, ◌+◌, ◌-◌, ◌%◌, ◌<◌, ◌≤◌, Bool, true, false, not, ◌||◌, ◌⊎◌, List, [], ◌∷◌, sym, refl, ap, ◌∙◌, subst, inl, inr, arith}
+use Rattle.std.proofs.Common.{◌≡◌, ℕ, ◌+◌, ◌-◌, ◌%◌, ◌<◌, ◌≤◌, true, false, List, sym, refl, ◌∙◌, subst, inl, inr, arith}
 use Rattle.std.proofs.lemmas.Bool.{cases_Bool, cases_eq, cases_lt, both_ways}
-use Rattle.masks.specs.Masks.{on}
-use Rattle.lanes.specs.Syntax.{Body, at_barrier, ended}
+use Rattle.lanes.specs.Syntax.{Body, at_barrier}
 use Rattle.lanes.specs.Step.{stepping}
 use Rattle.lanes.specs.Grid.{Grid, Turn, of, release, can, turns}
 use Rattle.lanes.specs.Promise.{Still}
@@ -21,9 +20,8 @@ use Rattle.machine.specs.Schedule.{Passed}
 use Rattle.machine.proofs.Stances.{does-stance, can-of, can-outside, cannot-go}
 use Rattle.machine.proofs.Passing.{passed-lanes, passed_start, passed-group, passed-all}
 use Rattle.rows.specs.Stories.{RowStory, Free}
-use Rattle.rows.specs.Turns.{RowRests, RowGoes, RowNamed}
+use Rattle.rows.specs.Turns.{RowRests, RowGoes}
 use Rattle.rows.specs.Lockstep.{row_of, RowBefore, RowsKnow, RowFound}
-use Rattle.rows.proofs.Rowsteps.{lane-of-row}
 use Rattle.rows.proofs.Keeping.{stacked-story, stacked-free}
 
 -- what the step where a lane stands says of what it can do

@@ -1,5 +1,5 @@
 -- Looking at the joins of a row from the newest to the oldest.
-use Rattle.std.proofs.Common.{◌≡◌, ℕ, zero, suc, ◌+◌, ◌-◌, ◌<◌, ◌≤◌, Bool, true, false, cond, not, ◌&&◌, ◌||◌, eqb, ltb, ◌⊎◌, Some, None, sym, refl, ap, ◌∙◌, subst, inl, inr, arith}
+use Rattle.std.proofs.Common.{◌≡◌, ℕ, suc, ◌<◌, ◌≤◌, true, false, not, ◌&&◌, ◌||◌, eqb, ltb, ◌⊎◌, Some, None, sym, refl, ap, ◌∙◌, subst, inl, inr, arith}
 use Rattle.std.proofs.lemmas.Bool.{both_ways, cases_Bool, cases_lt, cases_eq, eqb-true, ltb-true, lt-ltb, eq-eqb, ne_eqb}
 use Rattle.std.proofs.lemmas.Bool.Decides.{nat_tests}
 use Rattle.masks.specs.Masks.{on}
@@ -10,7 +10,7 @@ use Rattle.rows.specs.declared.look.Look.{Look}
 use Rattle.rows.specs.declared.look.Look.TheVariants.{Does, Leaves, Rests}
 use Rattle.joins.specs.Story.{is_act_spec}
 use Rattle.rows.specs.Pick.{PartyOf}
-use Rattle.rows.specs.Looks.{Newest, InNone, HeldAt, InBranch, RowDoes, MayLeave, Looked, GetsSmaller, held_of, newer_held, Holds, Seen}
+use Rattle.rows.specs.Looks.{Newest, InNone, HeldAt, RowDoes, MayLeave, Looked, GetsSmaller, held_of, newer_held, Holds, Seen}
 use Rattle.rows.proofs.Parties.{zero-off}
 
 zero_held : (held : Look) (k c : ℕ) → c ≡ 0 → held_of held k c ≡ held

@@ -1,5 +1,5 @@
 -- A round of looking at a row's joins, in the words of the code: k joins are left, and j is the newest of them.
-use Rattle.std.proofs.Common.{◌≡◌, ℕ, zero, suc, ◌+◌, ◌-◌, ◌<◌, ◌≤◌, Bool, true, false, not, ◌&&◌, ◌||◌, eqb, ltb, Some, None, sym, refl, ap, ◌∙◌, subst, arith}
+use Rattle.std.proofs.Common.{◌≡◌, ℕ, suc, ◌-◌, ◌<◌, ◌≤◌, true, not, ◌&&◌, ◌||◌, eqb, ltb, Some, None, sym, ap, ◌∙◌, subst, arith}
 use Rattle.std.proofs.lemmas.Bool.{ltb-true}
 use Rattle.std.proofs.lemmas.Bool.Decides.{nat_tests}
 use Rattle.masks.specs.Masks.{on}
@@ -7,7 +7,7 @@ use Rattle.code.specs.declared.step.Step.{Step}
 use Rattle.joins.specs.declared.Join.{Join}
 use Rattle.rows.specs.declared.pick.Party.{Party}
 use Rattle.rows.specs.declared.look.Look.{Look}
-use Rattle.rows.specs.declared.look.Look.TheVariants.{Does, Leaves, Rests}
+use Rattle.rows.specs.declared.look.Look.TheVariants.{Leaves}
 use Rattle.rows.specs.Pick.{PartyOf}
 use Rattle.rows.specs.Looks.{RowDoes, MayLeave, Looked, GetsSmaller, held_of, Holds, Seen}
 use Rattle.rows.proofs.Looking.{leave-whole, does-line, seen_more, holds_more, smaller-held, last-does, last-held}

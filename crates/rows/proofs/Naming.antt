@@ -1,6 +1,6 @@
 -- What was found among the rows can be done, and what is known then.
-use Rattle.std.proofs.Common.{◌≡◌, ℕ, zero, suc, ◌+◌, ◌%◌, ◌<◌, ◌≤◌, Bool, true, false, cond, ◌⊎◌, List, [], ◌∷◌, ◌++◌, Some, None, Option, sym, refl, ap, ◌∙◌, subst, inl, inr, append-nil, arith}
-use Rattle.std.proofs.lemmas.Bool.{cases_Bool, cases_eq, both_ways}
+use Rattle.std.proofs.Common.{◌≡◌, ℕ, zero, suc, ◌+◌, ◌%◌, ◌<◌, ◌≤◌, Bool, true, false, cond, List, [], ◌∷◌, ◌++◌, Some, sym, refl, ap, ◌∙◌, subst, inl, inr, append-nil, arith}
+use Rattle.std.proofs.lemmas.Bool.{cases_eq, both_ways}
 use Rattle.masks.specs.Masks.{on}
 use Rattle.lanes.specs.Syntax.{Body}
 use Rattle.lanes.specs.Grid.{Grid, Turn, of, release, can, turn, turns}
@@ -17,11 +17,11 @@ use Rattle.machine.specs.declared.schedule.Choice.{Choice}
 use Rattle.machine.specs.declared.schedule.Choice.TheVariants.{Row, GoOn}
 use Rattle.machine.specs.Line.{Runs, row_turns}
 use Rattle.machine.specs.Schedule.{RowCan, Passed}
-use Rattle.machine.specs.Carried.{Carried, Chosen, Says}
+use Rattle.machine.specs.Carried.{Carried, Says}
 use Rattle.machine.proofs.Passing.{turn-can, passed_start, passed-go}
 use Rattle.rows.specs.declared.rows.Rows.{Rows}
-use Rattle.rows.specs.Stories.{RowStory, Free}
-use Rattle.rows.specs.Turns.{RowMoved, RowGoes}
+use Rattle.rows.specs.Stories.{RowStory}
+use Rattle.rows.specs.Turns.{RowMoved}
 use Rattle.rows.specs.Lockstep.{row_of, RowBefore, RowsKnow, RowFound, RowsFind, come_to}
 use Rattle.rows.proofs.Rowsteps.{lane-of-row, row-passed}
 use Rattle.rows.proofs.Rowturns.{row-append, row-whole, row-release, row_apart, row-others}

@@ -1,10 +1,10 @@
 -- Lanes of a row that do their line together, found entry by entry.
-use Rattle.std.proofs.Common.{◌≡◌, ℕ, zero, suc, ◌+◌, ◌-◌, ◌*◌, ◌^◌, ◌<◌, ◌≤◌, Bool, true, false, not, ◌&&◌, eqb, ltb, ◌⊎◌, sym, refl, ap, ◌∙◌, subst, inl, inr, arith}
-use lib.Bits.{bit_and, bit_xor, xor_add_and, and_le_l, and_le_r}
+use Rattle.std.proofs.Common.{◌≡◌, ℕ, zero, suc, ◌+◌, ◌*◌, ◌^◌, ◌<◌, ◌≤◌, Bool, true, false, not, ◌&&◌, eqb, ltb, ◌⊎◌, sym, refl, ap, ◌∙◌, inl, inr, arith}
+use lib.Bits.{bit_and, bit_xor, xor_add_and, and_le_l}
 use Rattle.std.proofs.lemmas.Bool.{both_ways, cases_Bool, cases_lt, eqb-true, lt-ltb, eq-eqb}
 use Rattle.std.proofs.lemmas.Bool.Decides.{nat_tests}
 use Rattle.masks.specs.Masks.{on, lacking}
-use Rattle.masks.proofs.Bits.{on_both, on-lacking, lacking-is, same_bits, no_bits, on-above}
+use Rattle.masks.proofs.Bits.{on_both, lacking-is, same_bits, no_bits, on-above}
 use Rattle.code.specs.declared.step.Step.{Step}
 use Rattle.rows.specs.declared.pick.Party.{Party}
 use Rattle.joins.specs.Story.{is_act_spec}

@@ -1,24 +1,21 @@
 -- One look at a row, and what comes of it.
-use Rattle.std.proofs.Common.{◌≡◌, ℕ, suc, ◌+◌, ◌<◌, ◌≤◌, Bool, true, false, List, Option, sym, refl, ap, ◌∙◌, subst, arith}
-use Rattle.masks.specs.Masks.{on}
+use Rattle.std.proofs.Common.{◌≡◌, ℕ, suc, ◌+◌, ◌<◌, ◌≤◌, List, Option, sym, refl, ◌∙◌, arith}
 use Rattle.lanes.specs.Syntax.{Body}
 use Rattle.lanes.specs.Grid.{Turn}
 use Rattle.code.specs.Words.{step_at}
 use Rattle.code.specs.Joins.{Regions}
 use Rattle.store.specs.declared.Sizes.{Sizes}
 use Rattle.store.specs.Lent.{line_at, Lined}
-use Rattle.joins.specs.declared.Join.{Join}
-use Rattle.joins.specs.Stack.{RowAt, width_of, join_at, depth_of, stack_of, down_from, leaves, Stacked}
+use Rattle.joins.specs.Stack.{RowAt, width_of, join_at, depth_of, stack_of, leaves, Stacked}
 use Rattle.joins.proofs.Sounds.{some-on}
 use Rattle.machine.specs.Line.{Runs}
 use Rattle.rows.specs.declared.pick.Party.{Party}
-use Rattle.rows.specs.declared.look.Look.{Look}
-use Rattle.rows.specs.declared.look.Look.TheVariants.{Does, Leaves, Rests}
+use Rattle.rows.specs.declared.look.Look.TheVariants.{Leaves, Rests}
 use Rattle.rows.specs.Pick.{stands_at}
-use Rattle.rows.specs.Looks.{HeldAt, RowDoes, Looked, GetsSmaller}
+use Rattle.rows.specs.Looks.{RowDoes, Looked, GetsSmaller}
 use Rattle.rows.specs.Stories.{RowStory, Free}
-use Rattle.rows.specs.Turns.{Opened, RowRests, RowGoes, RowNamed}
-use Rattle.rows.proofs.Rowsteps.{row_fits, row-does, row-left, lane-of-row}
+use Rattle.rows.specs.Turns.{Opened, RowNamed}
+use Rattle.rows.proofs.Rowsteps.{row-does, lane-of-row}
 use Rattle.rows.proofs.Thinning.{held, held-less, gets-less}
 
 lined-at : (z : Sizes) (lines : ℕ) (ls : List ℕ) (g l : ℕ) → Lined z lines ls → g < z.groups → l < z.lanes → line_at z ls g l < lines

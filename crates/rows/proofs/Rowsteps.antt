@@ -1,5 +1,5 @@
 -- A row's story goes on with what the row does.
-use Rattle.std.proofs.Common.{◌≡◌, ℕ, zero, suc, ◌+◌, ◌*◌, ◌<◌, ◌≤◌, Bool, true, false, cond, ◌⊎◌, List, [], ◌∷◌, ◌++◌, length, Option, sym, refl, ap, ◌∙◌, subst, inl, inr, arith}
+use Rattle.std.proofs.Common.{◌≡◌, ℕ, ◌+◌, ◌<◌, true, false, List, [], ◌∷◌, ◌++◌, length, Option, sym, refl, ap, ◌∙◌, subst, inl, inr, arith}
 use Rattle.std.proofs.lemmas.Bool.{cases_Bool, cond-true, cond-false}
 use Rattle.masks.specs.Masks.{on}
 use Rattle.lanes.specs.Grid.{Turn, release}
@@ -9,18 +9,18 @@ use Rattle.code.specs.Joins.{Regions}
 use Rattle.store.specs.declared.Sizes.{Sizes}
 use Rattle.store.specs.Lent.{line_at}
 use Rattle.joins.specs.declared.Join.{Join}
-use Rattle.joins.specs.Stack.{RowAt, width_of, join_at, depth_of, down_from, stack_of, leaves, Stacked}
+use Rattle.joins.specs.Stack.{width_of, join_at, depth_of, down_from, stack_of, leaves, Stacked}
 use Rattle.joins.specs.Story.{Story, Event, did, parted, went, passed, place, partings, Open, leave, open_joins, is_barrier, Held, Fair, Happened, Kept, JoinsKept}
-use Rattle.joins.specs.Matched.{AreOpen, IsOpen, open_at}
+use Rattle.joins.specs.Matched.{AreOpen, open_at}
 use Rattle.joins.proofs.Stories.{joins-kept}
 use Rattle.joins.proofs.Matches.{are-more, are-deep}
 use Rattle.joins.proofs.Stackframes.{width-there}
 use Rattle.machine.specs.Line.{row_turns}
 use Rattle.rows.specs.declared.pick.Party.{Party}
 use Rattle.rows.specs.Pick.{stands_at}
-use Rattle.rows.specs.Looks.{HeldAt, RowDoes, MayLeave}
+use Rattle.rows.specs.Looks.{RowDoes, MayLeave}
 use Rattle.rows.specs.Stories.{turns_in, RowStory, Free}
-use Rattle.rows.specs.Turns.{opens, Opened, RowMoved, RowRests, RowGoes}
+use Rattle.rows.specs.Turns.{opens, Opened, RowMoved, RowGoes}
 use Rattle.rows.proofs.Fairness.{lanes-within, fair-went, left_open, fair-did, fair-parted, held_at}
 
 pub kept_by : (steps : List ℕ) (lines w : ℕ) (h : Story) → Regions (step_at steps lines) lines → Happened (step_at steps lines) w h → Kept (step_at steps lines) w h

@@ -1,7 +1,6 @@
 -- What became of the joins of a row, when all lanes have ended.
-use Rattle.std.specs.Prelude.{◌≡◌, ℕ, ◌<◌, Bool, cond, List, []}
+use Rattle.std.specs.Prelude.{◌≡◌, ℕ, ◌<◌, cond, List, []}
 use Rattle.lanes.specs.Grid.{Turn}
-use Rattle.code.specs.declared.step.Step.{Step}
 use Rattle.code.specs.declared.step.Step.TheVariants.{End}
 use Rattle.code.specs.Words.{step_at}
 use Rattle.store.specs.declared.Sizes.{Sizes}

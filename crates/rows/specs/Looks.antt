@@ -1,6 +1,6 @@
 -- What a row does next, by its joins and the entries at which its lanes stand. Joins f 0, f 1, .. f (n - 1) are counted from the
 -- oldest; p i is the entry at which lane i stands; the row has w lanes.
-use Rattle.std.specs.Prelude.{◌≡◌, ℕ, ◌<◌, ◌≤◌, Bool, true, false, cond, ◌⊎◌, Some, None, Option, ◌==◌, ◌≢◌}
+use Rattle.std.specs.Prelude.{◌≡◌, ℕ, ◌<◌, ◌≤◌, true, false, cond, ◌⊎◌, Some, None, Option, ◌==◌, ◌≢◌}
 use Rattle.masks.specs.Masks.{on}
 use Rattle.code.specs.declared.step.Step.{Step}
 use Rattle.joins.specs.declared.Join.{Join}

@@ -1,5 +1,5 @@
 -- Lanes of a row that do their line together.
-use Rattle.std.specs.Prelude.{◌≡◌, ℕ, ◌+◌, ◌<◌, ◌≤◌, Bool, true, false, List, ◌≢◌}
+use Rattle.std.specs.Prelude.{◌≡◌, ℕ, ◌+◌, true, false, List, ◌≢◌}
 use Rattle.masks.specs.Masks.{on}
 use Rattle.code.specs.declared.step.Step.{Step}
 use Rattle.joins.specs.Story.{is_act_spec}

@@ -5,7 +5,7 @@ use Rattle.code.specs.Words.{step_at}
 use Rattle.store.specs.declared.Sizes.{Sizes}
 use Rattle.store.specs.Lent.{line_at}
 use Rattle.joins.specs.Stack.{width_of, join_at, depth_of, stack_of}
-use Rattle.joins.specs.Story.{Event, did, parted, went, passed, Story, place, open_joins, Happened}
+use Rattle.joins.specs.Story.{did, parted, went, passed, Story, place, open_joins, Happened}
 use Rattle.joins.specs.Matched.{AreOpen}
 use Rattle.machine.specs.Line.{row_turns}
 use Rattle.rows.specs.Pick.{stands_at}

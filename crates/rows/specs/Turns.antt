@@ -1,5 +1,5 @@
 -- What a row does in its turn.
-use Rattle.std.specs.Prelude.{◌≡◌, ℕ, ◌+◌, ◌*◌, ◌<◌, ◌≤◌, Bool, true, false, cond, not, ◌&&◌, List, ◌∷◌, ◌++◌, Some, None, Option, ◌==◌, ◌≢◌}
+use Rattle.std.specs.Prelude.{◌≡◌, ℕ, ◌+◌, ◌*◌, ◌<◌, Bool, true, false, cond, not, ◌&&◌, List, ◌∷◌, ◌++◌, Some, None, Option, ◌==◌, ◌≢◌}
 use Rattle.masks.specs.Masks.{on}
 use Rattle.lanes.specs.Grid.{Turn}
 use Rattle.code.specs.declared.step.Step.{Step}
@@ -10,7 +10,6 @@ use Rattle.code.specs.Settle.{Leads}
 use Rattle.code.specs.Joins.{is_branch, JoinsAt}
 use Rattle.store.specs.declared.Sizes.{Sizes}
 use Rattle.store.specs.Lent.{line_at}
-use Rattle.joins.specs.declared.Join.{Join}
 use Rattle.joins.specs.Stack.{width_of, depth_of, stack_of}
 use Rattle.joins.specs.Story.{is_act_spec}
 use Rattle.machine.specs.Line.{row_turns}

@@ -1,4 +1,6 @@
 // Runs a program on a field and prints what is told.
+#![tactic(auto)]
+
 use std::io;
 
 const USAGE: &str =

@@ -1,4 +1,6 @@
 // What the programs that run a text share: the memory that they lend, and what a person sees.
+#![tactic(auto)]
+
 ghost use Rattle.std.specs.Prelude.{◌≡◌, ◌≤◌, true, is_ok, IfOk, Ok, vec_len, OnOk};
 ghost use Rattle.machine.specs.Script.{ScriptRead};
 ghost use Rattle.reader.specs.Texts.{read_at};

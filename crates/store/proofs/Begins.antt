@@ -1,13 +1,12 @@
 -- The start.
-use Rattle.std.proofs.Common.{◌≡◌, ℕ, zero, suc, ◌+◌, ◌-◌, ◌*◌, ◌<◌, ◌≤◌, Bool, true, false, eqb, List, [], ◌∷◌, ◌++◌, length, get_or, drop, replicate, sym, refl, ap, ◌∙◌, arith, get_or-drop}
+use Rattle.std.proofs.Common.{◌≡◌, ℕ, suc, ◌+◌, ◌-◌, ◌*◌, ◌<◌, ◌≤◌, false, eqb, List, [], ◌++◌, length, get_or, drop, replicate, ap, ◌∙◌, arith, get_or-drop}
 use lib.Arith.{digits_lt}
 use lib.ListN.{get_or-append}
 use Rattle.std.proofs.lemmas.List.{get_or-append_right}
-use Rattle.lanes.specs.Syntax.{Body, Program}
 use Rattle.lanes.specs.Step.{Lane, Memory}
 use Rattle.lanes.specs.Grid.{Group, Grid, begin, no_group, no_lane}
 use Rattle.store.specs.declared.Sizes.{Sizes}
-use Rattle.store.specs.Layout.{Sized, slots, room, base, place_of, cells_room}
+use Rattle.store.specs.Layout.{Sized, slots, room, base, place_of}
 use Rattle.store.specs.Lent.{upto, slot_of, line_at, own_of, lane_at, phase_of_spec, group_at, field_of, memory_of, grid_of, Lined, Begun, Started}
 use Rattle.store.proofs.Upto.{upto-same, upto-replicate}
 use Rattle.store.proofs.Slots.{lane_is, place-lt}

@@ -1,7 +1,7 @@
 -- Each cell has a place of its own; memory under a write of one cell.
-use Rattle.std.proofs.Common.{◌≡◌, ℕ, zero, suc, ◌+◌, ◌*◌, ◌<◌, ◌≤◌, Bool, true, false, ◌≢◌, List, [], ◌∷◌, length, get_or, set, sym, refl, ap, ◌∙◌, arith, get_or-set_other, get_or-set_same}
+use Rattle.std.proofs.Common.{◌≡◌, ℕ, zero, suc, ◌+◌, ◌*◌, ◌<◌, ◌≤◌, Bool, true, false, List, [], length, get_or, set, refl, ap, arith, get_or-set_other, get_or-set_same}
 use lib.Arith.{digits_lt}
-use Rattle.lanes.specs.Step.{Memory, cells, with_cells, store}
+use Rattle.lanes.specs.Step.{Memory, cells, store}
 use Rattle.store.specs.declared.Sizes.{Sizes}
 use Rattle.store.specs.Layout.{base, size, cells_room, whose}
 use Rattle.store.specs.Lent.{upto, field_of, memory_of}

@@ -1,11 +1,11 @@
 -- How many are so, when some change; and the counts of a group.
-use Rattle.std.proofs.Common.{◌≡◌, ℕ, zero, suc, ◌+◌, ◌<◌, ◌≤◌, Bool, true, false, cond, ◌&&◌, eqb, ◌⊎◌, List, sym, refl, ap, ◌∙◌, inl, inr, add-zero, add-one, arith}
+use Rattle.std.proofs.Common.{◌≡◌, ℕ, zero, suc, ◌+◌, ◌<◌, ◌≤◌, Bool, true, false, cond, ◌&&◌, eqb, List, sym, refl, ap, ◌∙◌, inl, inr, add-zero, add-one, arith}
 use Rattle.std.proofs.lemmas.Bool.{both_ways, cases_Bool, cases_eq, eq-eqb, ne_eqb}
 use Rattle.lanes.specs.Syntax as body
 use Rattle.lanes.specs.Syntax.{Body, at_barrier}
 use Rattle.store.specs.declared.Sizes.{Sizes}
-use Rattle.store.specs.Layout.{Sized, slots}
-use Rattle.store.specs.Lent.{slot_of, line_at, waiting_of_spec, ended_of, Aside}
+use Rattle.store.specs.Layout.{Sized}
+use Rattle.store.specs.Lent.{line_at, waiting_of_spec, ended_of, Aside}
 use Rattle.store.specs.Counts.{how_many, Counted, Tallied}
 
 pub many-start : (f : ℕ → Bool) → how_many f 0 ≡ 0

@@ -1,10 +1,10 @@
 -- All that is owed of what a lane did.
-use Rattle.std.proofs.Common.{◌≡◌, ℕ, ◌+◌, ◌<◌, ◌≤◌, Bool, true, false, cond, eqb, ◌⊎◌, List, [], ◌∷◌, length, get_or, set, refl, ◌∙◌, inl, inr, arith, length-set}
+use Rattle.std.proofs.Common.{◌≡◌, ℕ, ◌+◌, ◌<◌, ◌≤◌, Bool, true, false, cond, eqb, ◌⊎◌, List, length, get_or, set, refl, ◌∙◌, inl, inr, arith, length-set}
 use Rattle.store.specs.declared.Sizes.{Sizes}
 use Rattle.store.specs.declared.Deed.TheVariants.{Quiet, Touched, Wrong}
 use Rattle.store.specs.declared.Todo.TheVariants.{Put, Read, Write, Branch}
 use Rattle.store.specs.declared.Seen.{Seen}
-use Rattle.store.specs.Layout.{slots, place_of, room, base, size, whose, cells_room}
+use Rattle.store.specs.Layout.{place_of, room, base, size, whose, cells_room}
 use Rattle.store.specs.Lent.{Lent, Only, slot_of, line_at}
 use Rattle.store.specs.Acts.{Did, Placed}
 use Rattle.store.proofs.Slots.{only-slot, lined-twice, lined-line, slot_same, slot-other}

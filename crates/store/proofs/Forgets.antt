@@ -1,14 +1,14 @@
 -- What lies in the memory of lanes that have ended does not matter.
-use Rattle.std.proofs.Common.{◌≡◌, ℕ, zero, suc, ◌+◌, ◌<◌, ◌≤◌, Bool, true, false, cond, not, ◌&&◌, ◌||◌, eqb, ltb, ◌≢◌, ◌⊎◌, List, [], ◌∷◌, ◌++◌, map, length, get_or, set, sym, refl, ap, ◌∙◌, inl, inr, arith}
+use Rattle.std.proofs.Common.{◌≡◌, ℕ, ◌+◌, ◌<◌, Bool, true, false, cond, ◌&&◌, ◌||◌, ltb, ◌⊎◌, List, [], ◌∷◌, map, length, get_or, set, sym, refl, ap, ◌∙◌, inl, inr}
 use lib.ListN.{get_or-map, length-map}
 use lib.Seq.{map-set}
-use Rattle.std.proofs.lemmas.Bool.{cases_Bool, cond-true, cond-false, and_parts, not-true, or_parts, false≢true, both_ways}
+use Rattle.std.proofs.lemmas.Bool.{cases_Bool, cond-false, and_parts, not-true, or_parts, false≢true, both_ways}
 use Rattle.lanes.specs.Syntax.{Body, ended, at_barrier, end, put, read_shared, write_shared, read_all, write_all, barrier, when, while}
-use Rattle.lanes.specs.Step.{Lane, Memory, Act, act, cells, lane_of, after, touched, stepping}
-use Rattle.lanes.specs.Grid.{Group, Grid, Turn, of, release, the_group, the_lane, the_act, can, did, turn, turns, marks_at, marked, steps, weight, all_lanes, all_past, with_lane, gone_on, no_group, no_lane}
+use Rattle.lanes.specs.Step.{Lane, Memory, lane_of, stepping}
+use Rattle.lanes.specs.Grid.{Group, Grid, Turn, of, release, the_group, the_lane, the_act, can, did, turn, turns, marks_at, marked, steps, all_lanes, with_lane, gone_on, no_group, no_lane}
 use Rattle.store.specs.declared.Sizes.{Sizes}
-use Rattle.store.specs.Lent.{slot_of, line_at, own_of, lane_at, phase_of_spec, group_at, grid_of, upto}
-use Rattle.store.specs.Ended.{forget_lane, forget_group, forget, Alike, EndedFree}
+use Rattle.store.specs.Lent.{slot_of, line_at, own_of, lane_at, group_at, grid_of, upto}
+use Rattle.store.specs.Ended.{forget_lane, forget_group, forget, Alike}
 use Rattle.store.proofs.Upto.{upto-same, map-upto}
 use Rattle.store.proofs.Grids.{group_is}
 

@@ -1,9 +1,9 @@
 -- Words of a group, and that it goes on.
-use Rattle.std.proofs.Common.{◌≡◌, ℕ, zero, suc, ◌+◌, ◌*◌, ◌/◌, ◌%◌, ◌<◌, ◌≤◌, Bool, true, false, cond, ◌&&◌, eqb, ltb, ◌≢◌, ◌⊎◌, List, [], ◌∷◌, length, get_or, set, sym, refl, ap, ◌∙◌, inl, inr, not-suc-le-zero, add-one, arith, length-set}
+use Rattle.std.proofs.Common.{◌≡◌, ℕ, zero, suc, ◌+◌, ◌*◌, ◌/◌, ◌%◌, ◌<◌, ◌≤◌, Bool, true, eqb, ◌⊎◌, List, [], ◌∷◌, length, get_or, set, sym, refl, ap, ◌∙◌, inl, inr, not-suc-le-zero, add-one, arith, length-set}
 use Rattle.std.proofs.lemmas.Bool.{cases_eq, lt-ltb, and_from}
 use Rattle.lanes.specs.Syntax.{Body, at_barrier, past_barrier, barrier}
 use Rattle.lanes.specs.Step.{Lane, goes_to}
-use Rattle.lanes.specs.Grid.{Group, Grid, turn, did, can, release, all_lanes, all_past, gone_on, the_group, no_group, no_lane}
+use Rattle.lanes.specs.Grid.{Group, turn, did, can, release, all_lanes, all_past, gone_on, no_group, no_lane}
 use Rattle.store.specs.declared.Sizes.{Sizes}
 use Rattle.store.specs.Layout.{Sized, slots, room, place_of}
 use Rattle.store.specs.Lent.{upto, slot_of, line_at, own_of, lane_at, phase_of_spec, group_at, memory_of, grid_of, Lined, Aside, Raised}

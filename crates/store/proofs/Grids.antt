@@ -1,12 +1,12 @@
 -- The grid under a step of one lane.
-use Rattle.std.proofs.Common.{◌≡◌, ℕ, zero, suc, ◌+◌, ◌*◌, ◌<◌, ◌≤◌, Bool, true, false, cond, ◌&&◌, ltb, ◌≢◌, ◌⊎◌, List, [], ◌∷◌, length, get_or, set, sym, refl, ap, ◌∙◌, inl, inr, arith}
+use Rattle.std.proofs.Common.{◌≡◌, ℕ, suc, ◌<◌, ◌≤◌, true, ◌⊎◌, List, length, set, sym, refl, ap, ◌∙◌, inl, inr, arith}
 use Rattle.std.proofs.lemmas.Bool.{lt-ltb, cases_eq}
 use Rattle.lanes.specs.Syntax.{Body}
-use Rattle.lanes.specs.Step.{Lane, goes_to, Memory, Act, act, cells, lane_of, after, touched, stepping}
-use Rattle.lanes.specs.Grid.{Group, Grid, Turn, of, turn, did, can, the_group, the_lane, the_act, with_lane, no_group, no_lane, marks, marks_at}
+use Rattle.lanes.specs.Step.{Lane, goes_to, Memory, Act, act, lane_of, after, touched, stepping}
+use Rattle.lanes.specs.Grid.{Group, of, turn, did, can, the_group, the_lane, the_act, with_lane, no_group, no_lane, marks, marks_at}
 use Rattle.store.specs.declared.Sizes.{Sizes}
-use Rattle.store.specs.Layout.{Sized, slots, size, place_of, room}
-use Rattle.store.specs.Lent.{upto, slot_of, lane_at, phase_of_spec, group_at, memory_of, grid_of, Only, line_at, Settled}
+use Rattle.store.specs.Layout.{Sized, size, place_of, room}
+use Rattle.store.specs.Lent.{lane_at, phase_of_spec, group_at, memory_of, grid_of, Only, line_at, Settled}
 use Rattle.store.proofs.Upto.{upto-at, upto-length, upto-same, upto-set}
 use Rattle.store.proofs.Slots.{lane-same, phase-same, only-slot, lane-line, lined-line, slot-other, slot_same}
 use Rattle.store.proofs.Cells.{cells-length}

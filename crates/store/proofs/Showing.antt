@@ -1,16 +1,14 @@
 -- Grids that differ only in own numbers of lanes that have ended show the same to be told.
-use Rattle.std.proofs.Common.{◌≡◌, ℕ, zero, suc, ◌+◌, ◌<◌, ◌≤◌, Bool, true, false, cond, not, ◌&&◌, ◌||◌, ltb, ◌≢◌, ◌⊎◌, List, [], ◌∷◌, ◌++◌, map, length, get_or, set, sym, refl, ap, ◌∙◌, subst, inl, inr, not-suc-le-zero, arith, get_or-set_other}
+use Rattle.std.proofs.Common.{◌≡◌, ℕ, zero, suc, ◌<◌, Bool, true, false, ◌⊎◌, List, [], ◌∷◌, ◌++◌, map, length, get_or, sym, refl, ap, ◌∙◌, inl, inr, not-suc-le-zero, arith, get_or-set_other}
 use lib.ListN.{length-map}
-use Rattle.std.proofs.lemmas.Bool.{cases_Bool, cases_eq, and_parts, both_ways, not-true, or_parts}
+use Rattle.std.proofs.lemmas.Bool.{cases_Bool, and_parts, both_ways, not-true, or_parts}
 use Rattle.lanes.specs.Syntax.{Body, ended, at_barrier}
 use Rattle.lanes.specs.Step.{Lane, stepping}
-use Rattle.lanes.specs.Grid.{Group, Grid, Turn, of, release, the_group, the_lane, can, did, turn, turns, marked, steps, all_lanes, all_ended, gone_on, no_group, no_lane}
+use Rattle.lanes.specs.Grid.{Group, Grid, Turn, of, release, the_group, the_lane, can, did, turn, turns, all_lanes, all_ended, gone_on, no_group, no_lane}
 use Rattle.lanes.specs.Told.{Told, cells, races, missing, stuck, too_long, NoneWrong, Shows}
 use Rattle.lanes.proofs.Places.{at-keeps}
 use Rattle.lanes.proofs.Turns.{move, turn-did, turn-idle, turns-append, did-lanes, not-both}
-use Rattle.store.specs.declared.Sizes.{Sizes}
-use Rattle.store.specs.Lent.{grid_of}
-use Rattle.store.specs.Ended.{forget_lane, forget_group, forget, Alike, DoesSame, EndedFree}
+use Rattle.store.specs.Ended.{forget_lane, forget_group, forget, EndedFree}
 use Rattle.store.proofs.Upto.{upto_is}
 use Rattle.store.proofs.Grids.{group_is}
 use Rattle.store.proofs.Forgets.{kept-lane, group-forgot, lane-forgot, all-forgot, can-forgot, turns-alike, marked-alike, steps_alike, grid-alike}

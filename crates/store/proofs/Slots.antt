@@ -1,11 +1,11 @@
 -- Each slot of a lane has a place of its own; slots and lanes under a write to one slot.
-use Rattle.std.proofs.Common.{◌≡◌, ℕ, zero, suc, ◌+◌, ◌-◌, ◌*◌, ◌<◌, ◌≤◌, Bool, true, false, eqb, ◌≢◌, ◌⊎◌, List, length, get_or, set, sym, refl, ap, ◌∙◌, inl, inr, add-mul, arith, length-set, get_or-set_other, get_or-set_same}
+use Rattle.std.proofs.Common.{◌≡◌, ℕ, ◌+◌, ◌-◌, ◌*◌, ◌<◌, ◌≤◌, true, eqb, ◌⊎◌, List, length, get_or, set, refl, ap, ◌∙◌, inl, inr, add-mul, arith, length-set, get_or-set_other, get_or-set_same}
 use lib.Arith.{digits_lt}
 use Rattle.std.proofs.lemmas.Bool.{cases_eq}
 use Rattle.lanes.specs.Syntax.{Body}
 use Rattle.lanes.specs.Step.{Lane, with_own, goes_to}
 use Rattle.store.specs.declared.Sizes.{Sizes}
-use Rattle.store.specs.Layout.{Sized, slots, place_of, room}
+use Rattle.store.specs.Layout.{slots, place_of, room}
 use Rattle.store.specs.Lent.{slot_of, line_at, own_of, lane_at, phase_of_spec, Lined, Only}
 use Rattle.store.proofs.Upto.{upto-at, upto-same, upto-set, digits_same}
 

@@ -1,15 +1,15 @@
 -- Each thing that a lane does is a turn.
-use Rattle.std.proofs.Common.{◌≡◌, ℕ, zero, suc, ◌+◌, ◌*◌, ◌<◌, ◌≤◌, Bool, true, false, cond, not, ◌||◌, eqb, ltb, ◌⊎◌, List, [], ◌∷◌, length, get_or, set, sym, refl, ap, ◌∙◌, inl, inr, arith, length-set}
+use Rattle.std.proofs.Common.{◌≡◌, ℕ, suc, ◌+◌, ◌<◌, ◌≤◌, Bool, true, false, cond, eqb, ◌⊎◌, List, [], ◌∷◌, length, get_or, set, refl, ap, ◌∙◌, inl, inr, arith, length-set}
 use Rattle.std.proofs.lemmas.Bool.{lt-ltb, le-ltb, false≢true, true≢false, both_ways}
 use Rattle.lanes.specs.Syntax.{Body, Expr, followed, at_barrier, ended, end, put, read_shared, write_shared, read_all, write_all, when, while}
-use Rattle.lanes.specs.Step.{Lane, Memory, Touch, value, with_own, goes_to, gone_wrong, if_there, Act, quiet, reads, writes, act, cells, lane_of, after, touched, stepping, store}
+use Rattle.lanes.specs.Step.{Lane, value, with_own, goes_to, gone_wrong, if_there, Act, quiet, reads, writes, act, lane_of, after, touched, stepping}
 use Rattle.store.specs.declared.Sizes.{Sizes}
 use Rattle.store.specs.declared.Deed.{Deed}
-use Rattle.store.specs.declared.Deed.TheVariants.{Quiet, Touched, Wrong}
+use Rattle.store.specs.declared.Deed.TheVariants.{Quiet, Wrong}
 use Rattle.store.specs.declared.Todo.TheVariants.{Put, Read, Write, Branch}
-use Rattle.store.specs.Layout.{Sized, slots, place_of, room, base, size, cells_room, whose}
-use Rattle.store.specs.Lent.{Lent, Only, slot_of, line_at, own_of, lane_at, memory_of, grid_of}
-use Rattle.store.specs.Acts.{IfHere, WhileHere, NextIs, Ready, touches_of, went_wrong, Turned}
+use Rattle.store.specs.Layout.{slots, place_of, room, base, size, whose}
+use Rattle.store.specs.Lent.{Lent, Only, line_at, own_of, lane_at, memory_of}
+use Rattle.store.specs.Acts.{Ready, touches_of, went_wrong, Turned}
 use Rattle.store.proofs.Slots.{only-slot, only-both, lane-line, lane-own, lane-wrong}
 use Rattle.store.proofs.Cells.{whose-le, cells_at, memory-store}
 use Rattle.store.proofs.Grids.{turn_is, marks-are, can_step_spec}

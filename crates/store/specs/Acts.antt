@@ -1,10 +1,9 @@
 -- What one lane has to do next, with the numbers worked out, and that it has done it: one turn of the grid.
-use Rattle.std.specs.Prelude.{◌≡◌, ℕ, suc, ◌+◌, ◌<◌, ◌≤◌, Bool, true, false, ◌⊎◌, List, [], ◌∷◌, get_or}
+use Rattle.std.specs.Prelude.{◌≡◌, ℕ, ◌+◌, ◌<◌, ◌≤◌, Bool, true, false, ◌⊎◌, List, [], ◌∷◌}
 use Rattle.lanes.specs.Syntax.{Body, Expr, followed, end, put, read_shared, write_shared, read_all, write_all, barrier, when, while}
-use Rattle.lanes.specs.Step.{Touch, Lane, value}
-use Rattle.lanes.specs.Grid.{Turn, of, release, turn, can, marks, marks_at}
+use Rattle.lanes.specs.Step.{Touch, value}
+use Rattle.lanes.specs.Grid.{of, release, turn, can, marks, marks_at}
 use Rattle.store.specs.declared.Sizes.{Sizes}
-use Rattle.store.specs.declared.Seen.{Seen}
 use Rattle.store.specs.declared.Todo.{Todo}
 use Rattle.store.specs.declared.Todo.TheVariants.{Put, Read, Write, Branch}
 use Rattle.store.specs.declared.Deed.{Deed}

@@ -1,5 +1,5 @@
 -- What lies in the memory of lanes that have ended does not matter.
-use Rattle.std.specs.Prelude.{◌≡◌, ℕ, ◌+◌, ◌<◌, Bool, true, cond, List, [], map, ◌≢◌}
+use Rattle.std.specs.Prelude.{◌≡◌, ℕ, ◌+◌, ◌<◌, true, cond, List, [], map, ◌≢◌}
 use Rattle.lanes.specs.Syntax.{Body, ended}
 use Rattle.lanes.specs.Step.{Lane}
 use Rattle.lanes.specs.Grid.{Group, Grid, Turn, can, turns, marked, steps}

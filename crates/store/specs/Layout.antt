@@ -7,7 +7,7 @@
 --   slots 6 to 127: kept for whoever picks the lanes
 --   slot 128 + k: the lane's own number k
 -- The slice of cells: those of group 0, of group 1, .., then the field's.
-use Rattle.std.specs.Prelude.{ℕ, zero, suc, ◌+◌, ◌*◌, ◌<◌, ◌≤◌, Bool, true, false}
+use Rattle.std.specs.Prelude.{ℕ, zero, suc, ◌+◌, ◌*◌, ◌≤◌, Bool, true, false}
 use Rattle.store.specs.declared.Sizes.{Sizes}
 
 -- Sizes in bounds.

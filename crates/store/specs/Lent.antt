@@ -1,6 +1,6 @@
 -- The grid that the lent slices stand for. What is left to do at a line is any function here, so that nothing is said of how a program
 -- is kept.
-use Rattle.std.specs.Prelude.{◌≡◌, ℕ, zero, suc, ◌+◌, ◌*◌, ◌<◌, ◌≤◌, ◌⊎◌, List, map, length, ◌==◌, ◌≢◌, slice_index}
+use Rattle.std.specs.Prelude.{◌≡◌, ℕ, suc, ◌+◌, ◌*◌, ◌<◌, ◌≤◌, ◌⊎◌, List, map, length, ◌==◌, ◌≢◌, slice_index}
 use Rattle.std.specs.List.{range_with_len}
 use Rattle.lanes.specs.Syntax.{Body, Program}
 use Rattle.lanes.specs.Step.{Lane, Memory}

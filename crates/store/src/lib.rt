@@ -1,4 +1,6 @@
 // The grid of lanes and cells in lent slices. The definitions in specs/ say which grid the slices stand for.
+#![tactic(auto)]
+
 mod acts;
 mod fresh;
 mod groups;

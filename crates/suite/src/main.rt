@@ -1,4 +1,6 @@
 // Runs the tables of cases through the public calls. docs/TESTS.md says what the files look like.
+#![tactic(auto)]
+
 mod cases;
 mod fields;
 mod prints;

@@ -1,10 +1,9 @@
 -- A touch that races with none, by the entries that it has to look at.
-use Rattle.std.proofs.Common.{◌≡◌, ℕ, ◌+◌, ◌*◌, Bool, true, false, cond, not, List, Some, None, Option, sym, refl, ap, ◌∙◌}
-use Rattle.std.proofs.lemmas.Bool.{cond_both, false≢true, true≢false, both_ways}
+use Rattle.std.proofs.Common.{◌≡◌, ℕ, ◌+◌, ◌*◌, Bool, true, false, cond, not, List, Some, None, Option, sym, refl, ◌∙◌}
+use Rattle.std.proofs.lemmas.Bool.{false≢true, both_ways}
 use Rattle.touches.specs.declared.Who.{Who}
 use Rattle.touches.specs.declared.Found.{Found}
-use Rattle.touches.specs.declared.Held.{Held}
-use Rattle.touches.specs.Code.{apart_of, named, reader_of, writer_of, or_else, look_of, entry_of, readers_by, held_of, held_put, clear_of, calm_readers, calm_of, TouchedAt}
+use Rattle.touches.specs.Code.{apart_of, reader_of, writer_of, or_else, look_of, entry_of, readers_by, held_of, held_put, clear_of, calm_readers, calm_of, TouchedAt}
 
 none_of : Option Found → Bool
 none_of None = true

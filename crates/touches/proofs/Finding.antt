@@ -1,6 +1,6 @@
 -- What is kept finds a race exactly if there is one.
-use Rattle.std.proofs.Common.{◌≡◌, ℕ, ◌<◌, ◌≤◌, Bool, true, false, cond, not, ◌&&◌, ◌||◌, eqb, ltb, ◌⊎◌, List, [], ◌∷◌, Some, None, Option, sym, refl, ap, ◌∙◌, subst, inl, inr, arith}
-use Rattle.std.proofs.lemmas.Bool.{cond_both, cases_Bool, both_ways}
+use Rattle.std.proofs.Common.{◌≡◌, ℕ, ◌≤◌, Bool, true, false, cond, ◌&&◌, ◌||◌, eqb, ◌⊎◌, List, Some, None, Option, refl, inl, inr, arith}
+use Rattle.std.proofs.lemmas.Bool.{cond_both, cases_Bool}
 use Rattle.std.proofs.lemmas.Bool.Decides.{nat_tests}
 use Rattle.lanes.specs.Grid.{Mark}
 use Rattle.lanes.specs.Race.{race, unparted}
@@ -9,8 +9,8 @@ use Rattle.touches.specs.declared.Found.{Found}
 use Rattle.touches.specs.declared.Held.{Held}
 use Rattle.touches.specs.declared.Readers.{Readers}
 use Rattle.touches.specs.declared.Readers.TheVariants.{Nobody, One, Two}
-use Rattle.touches.specs.Code.{apart_of, named, reader_of, writer_of, or_else, look_of, joined_of, keep_of}
-use Rattle.touches.specs.Kept.{mark_of, Among, Was, Under, Pair, WriterKept, ReadersKept, Keeps, Rising, AnswersFor}
+use Rattle.touches.specs.Code.{apart_of, named, reader_of, writer_of, or_else, look_of}
+use Rattle.touches.specs.Kept.{mark_of, Among, Was, Under, WriterKept, ReadersKept, Keeps, Rising, AnswersFor}
 
 -- one kind of the earlier touches is answered for
 abbrev Part : ℕ → ℕ → List Mark → Bool → Mark → Option Found → Type 0

@@ -1,6 +1,6 @@
 -- A touch that races with none is kept, and what is kept stands for it and all before it.
-use Rattle.std.proofs.Common.{◌≡◌, ℕ, ◌<◌, ◌≤◌, Bool, true, false, cond, not, ◌&&◌, ◌||◌, eqb, ltb, ◌⊎◌, List, [], ◌∷◌, Some, None, Option, sym, refl, ap, ◌∙◌, subst, inl, inr, arith}
-use Rattle.std.proofs.lemmas.Bool.{cond_both, cases_Bool, both_ways}
+use Rattle.std.proofs.Common.{◌≡◌, ℕ, ◌<◌, ◌≤◌, Bool, true, false, not, eqb, ltb, ◌⊎◌, List, Some, None, Option, sym, refl, ap, ◌∙◌, subst, inl, inr, arith}
+use Rattle.std.proofs.lemmas.Bool.{cond_both, both_ways}
 use Rattle.std.proofs.lemmas.Bool.Decides.{nat_tests}
 use Rattle.lanes.specs.Grid.{Mark}
 use Rattle.lanes.specs.Race.{race, unparted}
@@ -10,8 +10,8 @@ use Rattle.touches.specs.declared.Held.{Held}
 use Rattle.touches.specs.declared.Readers.{Readers}
 use Rattle.touches.specs.declared.Readers.TheVariants.{Nobody, One, Two}
 use Rattle.touches.specs.declared.Change.{Change}
-use Rattle.touches.specs.Code.{apart_of, named, reader_of, writer_of, or_else, look_of, changed, joined_of, keep_of}
-use Rattle.touches.specs.Kept.{mark_of, Among, Was, Under, Pair, WriterKept, ReadersKept, Keeps, Rising, AnswersFor}
+use Rattle.touches.specs.Code.{look_of, changed, joined_of, keep_of}
+use Rattle.touches.specs.Kept.{mark_of, Among, Was, Under, WriterKept, ReadersKept, Keeps, Rising, AnswersFor}
 use Rattle.touches.proofs.Marks.{more, newest, further, among-more}
 use Rattle.touches.proofs.Finding.{risen, look-exact}
 

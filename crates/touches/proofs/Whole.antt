@@ -1,14 +1,13 @@
 -- One cell's touch in the slice of all.
-use Rattle.std.proofs.Common.{◌≡◌, ℕ, ◌+◌, ◌*◌, ◌<◌, ◌≤◌, Bool, eqb, ◌⊎◌, List, [], ◌∷◌, ◌++◌, length, get_or, Some, None, Option, sym, refl, ap, ◌∙◌, subst, inl, inr, arith}
+use Rattle.std.proofs.Common.{◌≡◌, ℕ, ◌+◌, ◌*◌, ◌<◌, Bool, ◌⊎◌, List, [], length, get_or, Some, None, Option, sym, refl, ◌∙◌, subst, inl, inr, arith}
 use Rattle.std.proofs.lemmas.Bool.{cases_eq}
 use Rattle.lanes.specs.Grid.{Mark}
-use Rattle.lanes.specs.Race.{race}
 use Rattle.touches.specs.declared.Who.{Who}
 use Rattle.touches.specs.declared.Held.{Held}
 use Rattle.touches.specs.declared.Readers.TheVariants.{Nobody}
 use Rattle.touches.specs.declared.Found.{Found}
-use Rattle.touches.specs.Kept.{mark_of, Among, Was, Keeps, Rising, AnswersFor}
-use Rattle.touches.specs.Code.{look_of, keep_of, held_of, held_put, entry_of, unpacked_of, TouchedAt}
+use Rattle.touches.specs.Kept.{mark_of, Among, Keeps, Rising, AnswersFor}
+use Rattle.touches.specs.Code.{look_of, held_of, held_put, entry_of, unpacked_of, TouchedAt}
 use Rattle.touches.specs.Whole.{Layout, AllKept, Keepable, Touched}
 use Rattle.touches.proofs.Marks.{more}
 use Rattle.touches.proofs.Finding.{look-exact}

@@ -1,14 +1,11 @@
 -- A touch in two words is read as it was written, and entries don't touch each other.
-use Rattle.std.proofs.Common.{◌≡◌, ℕ, ◌+◌, ◌-◌, ◌*◌, ◌/◌, ◌%◌, ◌<◌, ◌≤◌, Bool, true, false, cond, not, ◌&&◌, ◌||◌, eqb, ltb, ◌≢◌, ◌⊎◌, List, [], ◌∷◌, length, get_or, set, Some, None, Option, sym, refl, ap, ◌∙◌, subst, inl, inr, arith, length-set, get_or-set_other, get_or-set_same}
-use Rattle.std.proofs.lemmas.Bool.{cond_both}
+use Rattle.std.proofs.Common.{◌≡◌, ℕ, ◌+◌, ◌*◌, ◌<◌, Bool, true, false, eqb, List, length, set, Some, None, Option, refl, ap, ◌∙◌, arith, length-set, get_or-set_other, get_or-set_same}
 use Rattle.std.proofs.lemmas.Bool.Decides.{nat_tests}
 use Rattle.touches.specs.declared.Who.{Who}
 use Rattle.touches.specs.declared.Held.{Held}
-use Rattle.touches.specs.declared.Readers.{Readers}
-use Rattle.touches.specs.declared.Readers.TheVariants.{Nobody, One, Two}
 use Rattle.touches.specs.declared.Change.{Change}
 use Rattle.touches.specs.declared.Change.TheVariants.{Same, Only, Second}
-use Rattle.touches.specs.Code.{changed, change_of, joined_of, keep_of, packed_of, unpacked_of, phase_word, name_word, entry_of, entry_put, readers_by, held_of, change_put, held_put}
+use Rattle.touches.specs.Code.{changed, change_of, keep_of, packed_of, unpacked_of, phase_word, name_word, entry_of, entry_put, readers_by, held_of, change_put, held_put}
 
 -- numbers that fit into the word
 pub record Small (a : Who) : Type 0 where

@@ -1,5 +1,5 @@
 -- What the functions of this crate compute, each as a definition. The promises of the public functions are in Kept and Whole.
-use Rattle.std.specs.Prelude.{◌≡◌, ℕ, ◌+◌, ◌-◌, ◌*◌, ◌/◌, ◌%◌, ◌<◌, ◌≤◌, Bool, true, false, cond, not, ◌&&◌, ◌||◌, List, [], ◌∷◌, Some, None, Option, ◌==◌, nat_lt, slice_index, slice_set}
+use Rattle.std.specs.Prelude.{◌≡◌, ℕ, ◌+◌, ◌-◌, ◌*◌, ◌/◌, ◌%◌, Bool, true, false, cond, not, ◌&&◌, ◌||◌, List, Some, None, Option, ◌==◌, nat_lt, slice_index, slice_set}
 use Rattle.touches.specs.declared.Who.{Who}
 use Rattle.touches.specs.declared.Found.{Found}
 use Rattle.touches.specs.declared.Held.{Held}

@@ -4,7 +4,7 @@ use Rattle.lanes.specs.Grid.{Mark}
 use Rattle.lanes.specs.Race.{race}
 use Rattle.touches.specs.declared.Who.{Who}
 use Rattle.touches.specs.declared.Found.{Found}
-use Rattle.touches.specs.Kept.{mark_of, Among, Keeps, Rising}
+use Rattle.touches.specs.Kept.{mark_of, Among, Keeps}
 use Rattle.touches.specs.Code.{held_of}
 
 -- Where the cells lie: how many there are at a place, and at which of the `many` spots each cell's six words are.

@@ -1,5 +1,7 @@
 // What is kept of the touches of all cells: for each the last writer and up to two readers, in six words of a lent slice.
 // From that, whether the next touch races with an earlier one.
+#![tactic(auto)]
+
 mod rows;
 
 ghost use Rattle.std.specs.Prelude.{◌≡◌, ℕ, ◌+◌, ◌*◌, ◌<◌, ◌≤◌, Bool, List, [], ◌∷◌, length, Some, None};

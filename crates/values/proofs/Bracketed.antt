@@ -1,10 +1,10 @@
 -- Two expressions in a bracket: where they stand, and what the bracket is worth.
-use Rattle.std.proofs.Common.{◌≡◌, ℕ, zero, suc, ◌+◌, ◌-◌, ◌<◌, ◌≤◌, ◌≢◌, List, [], ◌∷◌, ◌++◌, length, get_or, take, drop, sym, refl, ap, ◌∙◌, subst, inl, inr, append_assoc, add_assoc, arith}
+use Rattle.std.proofs.Common.{◌≡◌, ℕ, suc, ◌+◌, ◌<◌, ◌≤◌, ◌≢◌, List, [], ◌∷◌, ◌++◌, length, get_or, drop, sym, refl, ap, ◌∙◌, append_assoc, arith}
 use Rattle.std.proofs.lemmas.List.{length-append, drop-drop, drop_at}
 use Rattle.std.proofs.lemmas.Bool.Decides.{nat_tests}
 use Rattle.lanes.specs.Syntax.{Expr}
 use Rattle.lanes.specs.Step.{value}
-use Rattle.grammar.specs.Spelling.{Named, SpellsExpr, infix_of}
+use Rattle.grammar.specs.Spelling.{Named}
 use Rattle.grammar.specs.Stands.{Stands}
 use Rattle.grammar.specs.Names.{NamesIn, Distinct}
 use Rattle.grammar.proofs.Scanned.{behind-part}
@@ -12,7 +12,7 @@ use Rattle.values.specs.declared.ops.Op.{Op}
 use Rattle.values.specs.declared.ops.Op.TheVariants.{Plus, Minus, Times, Over, Rest, Less, Same}
 use Rattle.values.specs.declared.row.Row.{Row}
 use Rattle.values.specs.Ops.{op_of, node, byte_of, Applied}
-use Rattle.values.specs.Rows.{Owned, Values, Evaluated}
+use Rattle.values.specs.Rows.{Values, Evaluated}
 use Rattle.values.proofs.Spelt.{Halves, halves}
 use Rattle.values.proofs.Standing.{is-bracket, in-text}
 

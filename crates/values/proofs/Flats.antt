@@ -1,18 +1,17 @@
 -- Right operands that are one number for all lanes.
-use Rattle.std.proofs.Common.{◌≡◌, ℕ, ◌+◌, ◌*◌, ◌<◌, ◌≤◌, List, length, get_or, replicate, sym, refl, ap, ◌∙◌, subst, arith}
+use Rattle.std.proofs.Common.{◌≡◌, ℕ, ◌+◌, ◌<◌, ◌≤◌, List, length, get_or, replicate, sym, ap, ◌∙◌, subst, arith}
 use Rattle.std.proofs.lemmas.Simd.{length-replicate, get_or-replicate}
 use Rattle.std.proofs.lemmas.List.{get_or_past}
 use Rattle.values.specs.declared.ops.Op.{Op}
 use Rattle.values.specs.declared.leaves.Leaf.{Leaf}
-use Rattle.values.specs.declared.leaves.Leaf.TheVariants.{Fixed, Own, Lane, Group, Lanes}
+use Rattle.values.specs.declared.leaves.Leaf.TheVariants.{Fixed, Own, Group, Lanes}
 use Rattle.values.specs.declared.items.Item.TheVariants.{Apply}
 use Rattle.values.specs.declared.row.Row.{Row}
 use Rattle.values.specs.declared.sides.Flat.{Flat}
 use Rattle.values.specs.Ops.{op_of, Applied, AppliedTo}
 use Rattle.lanes.specs.Syntax.{Expr}
 use Rattle.values.specs.Worth.{LeafIs}
-use Rattle.values.specs.Rows.{LeafWorth}
-use Rattle.values.specs.Items.{item_of, LeafHere, Unpacked}
+use Rattle.values.specs.Items.{item_of, LeafHere}
 use Rattle.values.specs.Sides.{FlatLeaf, FlatAt, LeafApplied, OperandApplied}
 use Rattle.values.proofs.Leafs.{worth-fixed, worth-group, worth-lanes}
 use Rattle.values.proofs.Unpacking.{unpacked-leaf, unpacked-apply}

@@ -1,12 +1,11 @@
 -- A word's value for each lane.
-use Rattle.std.proofs.Common.{◌≡◌, ℕ, ◌+◌, ◌*◌, ◌%◌, ◌<◌, ◌≤◌, List, length, get_or, sym, refl, ap, ◌∙◌, subst, arith}
-use Rattle.lanes.specs.Syntax.{Expr, fixed, var, lane, group, lanes}
-use Rattle.lanes.specs.Step.{whole, value}
+use Rattle.std.proofs.Common.{◌≡◌, ℕ, ◌+◌, ◌*◌, ◌<◌, List, length, get_or, sym, ap, ◌∙◌, subst}
+use Rattle.lanes.specs.Step.{value}
 use Rattle.values.specs.declared.leaves.Leaf.{Leaf}
 use Rattle.values.specs.declared.leaves.Leaf.TheVariants.{Fixed, Own, Lane, Group, Lanes}
 use Rattle.values.specs.declared.row.Row.{Row}
 use Rattle.values.specs.Worth.{LeafIs}
-use Rattle.values.specs.Rows.{Owned, Values, LeafWorth}
+use Rattle.values.specs.Rows.{Values, LeafWorth}
 
 module _ (leaf : Leaf) (own : List ℕ) (r : Row) (out : List ℕ) where
   pub worth-fixed : (a : ℕ) → leaf ≡ Fixed a → ((i : ℕ) → i < length out → get_or out i 0 ≡ a) → LeafWorth leaf own r out

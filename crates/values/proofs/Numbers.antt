@@ -1,5 +1,5 @@
 -- Digits read modulo 2^32.
-use Rattle.std.proofs.Common.{◌≡◌, ℕ, ◌+◌, ◌-◌, ◌*◌, ◌/◌, ◌%◌, ◌<◌, List, [], ◌∷◌, sym, refl, ap, ◌∙◌, arith}
+use Rattle.std.proofs.Common.{◌≡◌, ℕ, ◌+◌, ◌-◌, ◌*◌, ◌/◌, ◌%◌, List, [], ◌∷◌, sym, refl, ap, ◌∙◌, arith}
 use native.Mathlib.Nat.{div-add-mod, mul-add-mod_self_left, mod-mod}
 use Rattle.lanes.specs.Step.{whole}
 use Rattle.grammar.specs.Spelling.{decimal}

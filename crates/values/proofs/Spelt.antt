@@ -1,15 +1,10 @@
 -- How an expression that stands in a text is made up: a word, or two expressions in a bracket.
-use Rattle.std.proofs.Common.{◌≡◌, ℕ, zero, suc, ◌+◌, ◌-◌, ◌<◌, ◌≤◌, Bool, true, false, ◌≢◌, List, [], ◌∷◌, ◌++◌, length, get_or, take, drop, codes, sym, refl, ap, ◌∙◌, subst, append_assoc, add-zero, arith}
-use Rattle.std.specs.List.{between}
-use Rattle.std.proofs.lemmas.List.{length-append, length-drop, drop-drop, drop_at, take_at}
-use Rattle.std.proofs.lemmas.Bool.{false≢true, true≢false, both_ways, and_parts, and_from}
+use Rattle.std.proofs.Common.{◌≡◌, ℕ, ◌≤◌, true, false, List, [], ◌∷◌, length, get_or, codes, sym, refl, subst, arith}
+use Rattle.std.proofs.lemmas.Bool.{true≢false, and_parts, and_from}
 use Rattle.std.proofs.lemmas.Bool.Decides.{nat_tests}
 use Rattle.lanes.specs.Syntax.{Expr, fixed, var, lane, group, lanes, plus, minus, times, over, rest_of, less, same}
-use Rattle.grammar.specs.Spelling.{Named, SpellsExpr, IsNumber, IsName, digit, letter, word_byte, each_byte, infix_of}
-use Rattle.grammar.specs.Stands.{Stands, Apart}
+use Rattle.grammar.specs.Spelling.{Named, SpellsExpr, digit, word_byte, each_byte, infix_of}
 use Rattle.grammar.specs.Names.{NamesIn}
-use Rattle.grammar.specs.Words.{WordEnd}
-use Rattle.grammar.proofs.Scanned.{byte_at, at_part, behind-part, word-ends}
 use Rattle.values.specs.declared.ops.Op.{Op}
 use Rattle.values.specs.declared.ops.Op.TheVariants.{Plus, Minus, Times, Over, Rest, Less, Same}
 use Rattle.values.specs.Ops.{node, byte_of}

@@ -1,24 +1,20 @@
 -- Where the parts of an expression stand, and what it is worth by theirs.
-use Rattle.std.proofs.Common.{◌≡◌, ℕ, zero, suc, ◌+◌, ◌-◌, ◌<◌, ◌≤◌, Bool, true, false, ◌≢◌, List, [], ◌∷◌, ◌++◌, length, get_or, take, drop, Some, None, sym, refl, ap, ◌∙◌, subst, inl, inr, append_assoc, add-zero, arith}
+use Rattle.std.proofs.Common.{◌≡◌, ℕ, ◌+◌, ◌-◌, ◌<◌, ◌≤◌, true, false, ◌≢◌, List, length, get_or, take, sym, ap, ◌∙◌, subst, inl, inr, add-zero, arith}
 use Rattle.std.specs.List.{between}
-use Rattle.std.proofs.lemmas.List.{length-append, length-drop, drop-drop, drop_at, take_at}
+use Rattle.std.proofs.lemmas.List.{length-append, length-drop, take_at}
 use Rattle.std.proofs.lemmas.Bool.{both_ways, cases_Bool}
 use Rattle.lanes.specs.Syntax.{Expr}
-use Rattle.lanes.specs.Step.{value}
-use Rattle.grammar.specs.Spelling.{Named, SpellsExpr, word_byte, infix_of}
-use Rattle.grammar.specs.Stands.{Stands, Apart}
+use Rattle.grammar.specs.Spelling.{Named, SpellsExpr, word_byte}
+use Rattle.grammar.specs.Stands.{Stands}
 use Rattle.grammar.specs.Names.{NamesIn, Distinct}
 use Rattle.grammar.specs.Words.{WordEnd}
-use Rattle.grammar.proofs.Scanned.{byte_at, at_part, behind-part, word-ends}
-use Rattle.values.specs.declared.ops.Op.{Op}
-use Rattle.values.specs.declared.ops.Op.TheVariants.{Plus, Minus, Times, Over, Rest, Less, Same}
+use Rattle.grammar.proofs.Scanned.{byte_at, at_part, word-ends}
 use Rattle.values.specs.declared.leaves.Leaf.{Leaf}
 use Rattle.values.specs.declared.leaves.Leaf.TheVariants.{Fixed, Own, Lane, Group, Lanes}
 use Rattle.values.specs.declared.row.Row.{Row}
-use Rattle.values.specs.Ops.{op_of, node, byte_of, Op_at, Applied}
 use Rattle.values.specs.Worth.{simple, LeafIs, LeafAt}
-use Rattle.values.specs.Rows.{Owned, Values, LeafWorth, Evaluated}
-use Rattle.values.proofs.Spelt.{Word, word-spelt, Halves, halves}
+use Rattle.values.specs.Rows.{LeafWorth, Evaluated}
+use Rattle.values.proofs.Spelt.{word-spelt, halves}
 
 module _ (ns : List (List ℕ)) (text : List ℕ) (n : NamesIn ns text) (i : ℕ) (e : Expr) (s : Stands (Named ns) text i e) where
   first_byte : 1 ≤ length s.spelling → get_or text i 0 ≡ get_or s.spelling 0 0

@@ -1,14 +1,13 @@
 -- What words of an expression are worth.
-use Rattle.std.proofs.Common.{◌≡◌, ℕ, ◌+◌, ◌<◌, ◌≤◌, List, length, get_or, sym, refl, ap, ◌∙◌, subst, arith}
+use Rattle.std.proofs.Common.{◌≡◌, ℕ, ◌+◌, ◌≤◌, List, length, get_or, sym, ap, ◌∙◌, subst, arith}
 use Rattle.std.proofs.lemmas.List.{get_or_past}
 use Rattle.lanes.specs.Syntax.{Expr}
 use Rattle.lanes.specs.Step.{value}
 use Rattle.values.specs.declared.ops.Op.{Op}
 use Rattle.values.specs.declared.leaves.Leaf.{Leaf}
 use Rattle.values.specs.declared.row.Row.{Row}
-use Rattle.values.specs.declared.items.Item.{Item}
 use Rattle.values.specs.declared.items.Item.TheVariants.{Apply, Nothing}
-use Rattle.values.specs.Ops.{op_of, node, Applied}
+use Rattle.values.specs.Ops.{op_of, Applied}
 use Rattle.values.specs.Rows.{Values, LeafWorth}
 use Rattle.values.specs.Items.{item_of, LeafHere, Coded, Unpacked}
 use Rattle.values.proofs.Bracketed.{value-node}

@@ -1,13 +1,13 @@
 -- Expressions that are one word.
-use Rattle.std.proofs.Common.{◌≡◌, ℕ, zero, suc, ◌+◌, ◌-◌, ◌%◌, ◌<◌, ◌≤◌, Bool, true, false, ◌≢◌, ◌⊎◌, List, [], ◌∷◌, ◌++◌, length, get_or, take, drop, codes, sym, refl, ap, ◌∙◌, subst, inl, inr, add-zero, arith}
+use Rattle.std.proofs.Common.{◌≡◌, ℕ, ◌-◌, ◌%◌, ◌<◌, ◌≤◌, true, false, ◌≢◌, List, [], length, get_or, drop, codes, sym, refl, ap, ◌∙◌, add-zero, arith}
 use Rattle.std.specs.List.{between}
 use Rattle.std.proofs.lemmas.Bool.{false≢true, both_ways}
 use Rattle.std.proofs.lemmas.Bool.Decides.{nat_tests}
 use Rattle.std.proofs.lemmas.List.{length-take, get_or-take, get_or-drop}
 use Rattle.lanes.specs.Syntax.{Expr, fixed, var, lane, group, lanes, plus, minus, times, over, rest_of, less, same}
 use Rattle.lanes.specs.Step.{whole}
-use Rattle.grammar.specs.Spelling.{Named, SpellsExpr, IsNumber, IsName, letter, digit, decimal, one_of, keywords, same_bytes}
-use Rattle.grammar.specs.Names.{NamesIn, Distinct, FirstAt}
+use Rattle.grammar.specs.Spelling.{Named, SpellsExpr, IsNumber, letter, digit, decimal, one_of, keywords, same_bytes}
+use Rattle.grammar.specs.Names.{NamesIn, FirstAt}
 use Rattle.grammar.proofs.Scanned.{byte_at}
 use Rattle.values.specs.declared.leaves.Leaf.{Leaf}
 use Rattle.values.specs.declared.leaves.Leaf.TheVariants.{Fixed, Own, Lane, Group, Lanes}

@@ -1,4 +1,6 @@
 // What expressions are worth: arithmetic modulo 2^32, and an expression of the text for all lanes of a row at once.
+#![tactic(auto)]
+
 pub mod eval;
 pub mod fixed;
 pub mod items;

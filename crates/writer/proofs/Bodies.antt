@@ -1,12 +1,12 @@
 -- Reading lines as a function of the bytes: what spells a body is read as it.
-use Rattle.std.proofs.Common.{◌≡◌, ℕ, zero, suc, ◌+◌, ◌<◌, ◌≤◌, Bool, true, false, cond, ◌&&◌, ◌||◌, eqb, ◌≢◌, ◌⊎◌, List, [], ◌∷◌, ◌++◌, length, get_or, drop, codes, sym, refl, ap, ◌∙◌, inl, inr, not-suc-le-zero, arith}
+use Rattle.std.proofs.Common.{◌≡◌, ℕ, zero, suc, ◌+◌, ◌≤◌, Bool, true, false, cond, ◌||◌, eqb, ◌⊎◌, List, [], ◌∷◌, ◌++◌, length, drop, codes, refl, ◌∙◌, inl, inr, not-suc-le-zero, arith}
 use Rattle.std.proofs.lemmas.List.{append_assoc}
 use Rattle.std.proofs.lemmas.Bool.{and_parts}
 use Rattle.std.proofs.lemmas.Bool.Decides.{nat_tests}
 use Rattle.lanes.specs.Syntax.{Expr, fixed, var, lane, group, lanes, plus, minus, times, over, rest_of, less, same, Body, end, put, read_shared, write_shared, read_all, write_all, barrier, when, while}
 use Rattle.grammar.specs.Spelling.{digit, word_byte, each_byte, same_bytes, IsName, infix_of, SpellsExpr, SpellsBody}
 use Rattle.grammar.specs.Stands.{Apart}
-use Rattle.writer.proofs.Parses.{front, back, front-run, back-run, each-weaker, digit-word, height, Unlike, name-unlike, parsed, read_back}
+use Rattle.writer.proofs.Parses.{front, back, front-run, back-run, each-weaker, digit-word, height, name-unlike, parsed, read_back}
 
 -- a block of lines ends here: the text ends, or an else or an end comes
 abbrev pub stops : List ℕ → Bool

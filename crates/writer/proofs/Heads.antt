@@ -1,13 +1,13 @@
 -- Reading the first two lines as a function of the bytes, and with them whole texts: a text is one program at most.
-use Rattle.std.proofs.Common.{◌≡◌, ℕ, zero, suc, ◌+◌, ◌<◌, ◌≤◌, Bool, true, false, cond, ◌&&◌, ◌||◌, eqb, ◌≢◌, ◌⊎◌, List, [], ◌∷◌, ◌++◌, length, get_or, drop, codes, sym, refl, ap, ◌∙◌, subst, inl, inr, suc-le-suc, zero-le, le_of_suc-le-suc, not-suc-le-zero, arith}
+use Rattle.std.proofs.Common.{◌≡◌, ℕ, zero, suc, ◌+◌, ◌<◌, true, false, cond, eqb, List, [], ◌∷◌, ◌++◌, length, get_or, drop, codes, sym, refl, ap, ◌∙◌, subst, inl, inr, suc-le-suc, zero-le, le_of_suc-le-suc, not-suc-le-zero, arith}
 use Rattle.std.specs.List.{flat_map}
-use Rattle.std.proofs.lemmas.List.{append_assoc, append-nil}
+use Rattle.std.proofs.lemmas.List.{append_assoc}
 use Rattle.std.proofs.lemmas.Bool.{and_parts, and_from, eqb-true, eq-eqb, cases_Bool, both_ways}
-use Rattle.lanes.specs.Syntax.{Program, Expr, Body, end, put, read_shared, write_shared, read_all, write_all, barrier, when, while}
-use Rattle.grammar.specs.Spelling.{digit, word_byte, each_byte, same_bytes, IsName, IsNumber, decimal, SpellsBody, OwnLine, CellsLine, Spelled, Named}
+use Rattle.lanes.specs.Syntax.{Program, Body, end, put, read_shared, write_shared, read_all, write_all, barrier, when, while}
+use Rattle.grammar.specs.Spelling.{digit, word_byte, same_bytes, IsName, decimal, SpellsBody, OwnLine, CellsLine, Spelled, Named}
 use Rattle.grammar.specs.Taken.{Distinct}
 use Rattle.writer.specs.Once.{OneProgram}
-use Rattle.writer.proofs.Parses.{front, back, front-run, back-run, each-weaker, digit-word, Unlike, name-unlike}
+use Rattle.writer.proofs.Parses.{front, back, front-run, back-run, each-weaker, digit-word, name-unlike}
 use Rattle.writer.proofs.Bodies.{body_of, body_back, body_height}
 
 pub same_refl : (u : List ℕ) → same_bytes u u ≡ true

@@ -1,15 +1,15 @@
 -- The copy of a text is what its program is written as.
-use Rattle.std.proofs.Common.{◌≡◌, ℕ, zero, suc, ◌+◌, ◌-◌, ◌*◌, ◌<◌, ◌≤◌, Bool, true, false, cond, not, ◌&&◌, ◌||◌, eqb, leb, ◌≢◌, ◌⊎◌, List, [], ◌∷◌, ◌++◌, length, get_or, drop, codes, decimal as digits_of, sym, refl, ap, ◌∙◌, inl, inr, suc-le-suc, zero-le, not-suc-le-zero, arith}
+use Rattle.std.proofs.Common.{◌≡◌, ℕ, suc, ◌+◌, ◌-◌, ◌*◌, ◌<◌, ◌≤◌, Bool, true, false, ◌&&◌, eqb, leb, ◌⊎◌, List, [], ◌∷◌, ◌++◌, length, get_or, codes, decimal as digits_of, sym, refl, ap, ◌∙◌, inl, inr, suc-le-suc, zero-le, arith}
 use Rattle.std.specs.List.{flat_map}
 use Rattle.std.proofs.lemmas.List.{append_assoc, append-nil, length-append, get_or-append-add, get_or_at}
-use Rattle.std.proofs.lemmas.Bool.{and_parts, and_left, cases_Bool, both_ways, eqb-true, eqb-false, le-leb}
+use Rattle.std.proofs.lemmas.Bool.{and_parts, cases_Bool, both_ways, eqb-true, eqb-false, le-leb}
 use Rattle.std.proofs.lemmas.Bool.Decides.{nat_tests}
 use Rattle.lanes.specs.Syntax.{Expr, Body, end, put, read_shared, write_shared, read_all, write_all, barrier, when, while, Program, ended}
 use Rattle.lanes.specs.Told.{ExprFits, BodyFits}
-use Rattle.grammar.specs.Spelling.{digit, word_byte, each_byte, same_bytes, decimal, IsName, IsNumber, SpellsExpr, SpellsBody, OwnLine, CellsLine, Spelled, Named}
+use Rattle.grammar.specs.Spelling.{digit, word_byte, each_byte, decimal, IsName, SpellsExpr, SpellsBody, OwnLine, CellsLine, Spelled, Named}
 use Rattle.writer.specs.Written.{written_expr, written_body, written, else_lines_spec, own_line, cells_line_spec}
-use Rattle.writer.specs.Copy.{begins, zeros, empty_else, left_out, copied, copy}
-use Rattle.writer.proofs.Parses.{Unlike, name-unlike}
+use Rattle.writer.specs.Copy.{begins, zeros, left_out, copied, copy}
+use Rattle.writer.proofs.Parses.{name-unlike}
 use Rattle.writer.proofs.Copies.{left-none}
 use Rattle.writer.proofs.Same.{copied-own, copied-expr, copied-name, copied-number, copied-line, copied-other, begins-word}
 

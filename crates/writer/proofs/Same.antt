@@ -1,15 +1,15 @@
 -- What a copy makes of words, expressions and lines.
-use Rattle.std.proofs.Common.{◌≡◌, ℕ, zero, suc, ◌+◌, ◌-◌, ◌*◌, ◌^◌, ◌<◌, ◌≤◌, Bool, true, false, cond, not, ◌&&◌, ◌||◌, eqb, leb, ◌≢◌, ◌⊎◌, List, [], ◌∷◌, ◌++◌, length, get_or, codes, decimal as digits_of, sym, refl, ap, ◌∙◌, inl, inr, not-suc-le-zero, arith}
+use Rattle.std.proofs.Common.{◌≡◌, ℕ, ◌+◌, ◌-◌, ◌*◌, ◌<◌, ◌≤◌, Bool, true, false, ◌&&◌, eqb, List, [], ◌∷◌, ◌++◌, length, get_or, codes, decimal as digits_of, sym, refl, ap, ◌∙◌, inl, inr, not-suc-le-zero, arith}
 use Rattle.std.proofs.lemmas.Fmt.{decimal-digits_value}
 use Rattle.std.proofs.lemmas.List.{append_assoc}
 use Rattle.std.proofs.lemmas.Bool.{and_parts, and_left, cases_Bool, both_ways, eqb-true, eqb-false}
 use Rattle.std.proofs.lemmas.Bool.Decides.{nat_tests}
 use Rattle.lanes.specs.Syntax.{Expr, fixed, var, lane, group, lanes, plus, minus, times, over, rest_of, less, same}
 use Rattle.lanes.specs.Told.{ExprFits}
-use Rattle.grammar.specs.Spelling.{letter, digit, word_byte, each_byte, same_bytes, decimal, infix_of, IsName, IsNumber, SpellsExpr, Named}
+use Rattle.grammar.specs.Spelling.{letter, digit, word_byte, each_byte, same_bytes, decimal, infix_of, IsName, SpellsExpr, Named}
 use Rattle.grammar.specs.Stands.{Apart}
 use Rattle.writer.specs.Written.{written_expr}
-use Rattle.writer.specs.Copy.{begins, left_out, zero_led, copied, copy}
+use Rattle.writer.specs.Copy.{begins, copied, copy}
 use Rattle.writer.proofs.Parses.{each-weaker, digit-word}
 use Rattle.writer.proofs.Spelt.{own}
 

@@ -1,9 +1,9 @@
 -- Names in turn are names, and no two are the same: found by a test over all of them.
-use Rattle.std.proofs.Common.{◌≡◌, ℕ, zero, suc, ◌+◌, ◌-◌, ◌<◌, ◌≤◌, Bool, true, false, cond, not, ◌&&◌, ◌||◌, eqb, leb, ◌⊎◌, List, [], ◌∷◌, length, get_or, sym, refl, ap, ◌∙◌, inl, inr, not-suc-le-zero, arith}
+use Rattle.std.proofs.Common.{◌≡◌, ℕ, zero, suc, ◌<◌, ◌≤◌, Bool, true, not, ◌&&◌, ◌||◌, eqb, leb, List, [], length, get_or, sym, refl, ◌∙◌, inl, inr, not-suc-le-zero, arith}
 use Rattle.std.specs.Fmt.{digits}
 use Rattle.std.proofs.lemmas.List.FromFn.{length-map-range_with_len, get_or-map-range_with_len}
-use Rattle.std.proofs.lemmas.Bool.{and_parts, leb-true, eqb-true, not-true, cases_eq, cases_Bool, both_ways, or_cases}
-use Rattle.grammar.specs.Spelling.{letter, digit, word_byte, each_byte, same_bytes, one_of, keywords, IsName}
+use Rattle.std.proofs.lemmas.Bool.{and_parts, leb-true, eqb-true, not-true, cases_eq, both_ways, or_cases}
+use Rattle.grammar.specs.Spelling.{letter, word_byte, each_byte, same_bytes, one_of, keywords, IsName}
 use Rattle.grammar.specs.Taken.{Distinct}
 use Rattle.writer.specs.Written.{name_in_turn, names_in_turn}
 use Rattle.writer.proofs.Heads.{same_refl}

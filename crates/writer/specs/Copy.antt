@@ -1,6 +1,6 @@
 -- How a text is copied anew, byte by byte: without leading zeros, an else with nothing behind it, and a cells line that says 0.
 -- What a reader must believe is in Written: the copy of a text that is taken is what its program is written as.
-use Rattle.std.specs.Prelude.{ℕ, zero, suc, ◌+◌, Bool, true, false, cond, not, ◌&&◌, List, [], ◌∷◌, ◌++◌, length, drop, codes, ◌==◌, nat_le, slice_index}
+use Rattle.std.specs.Prelude.{ℕ, zero, suc, ◌+◌, Bool, true, false, cond, not, ◌&&◌, List, [], ◌∷◌, ◌++◌, drop, codes, ◌==◌, nat_le, slice_index}
 use Rattle.grammar.specs.Spelling.{digit, word_byte}
 
 -- t begins with p.

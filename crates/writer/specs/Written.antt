@@ -1,5 +1,5 @@
 -- The text that a program is written as, with given names for its own numbers.
-use Rattle.std.specs.Prelude.{◌≡◌, ℕ, zero, suc, ◌+◌, ◌-◌, ◌≤◌, Bool, true, false, cond, List, [], ◌∷◌, ◌++◌, map, length, codes, decimal as digits_of, ◌==◌, nat_lt, slice_index_or}
+use Rattle.std.specs.Prelude.{◌≡◌, ℕ, ◌+◌, ◌-◌, ◌≤◌, true, cond, List, [], ◌∷◌, ◌++◌, map, codes, decimal as digits_of, ◌==◌, nat_lt, slice_index_or}
 use Rattle.std.specs.List.{range_with_len, flat_map}
 use Rattle.lanes.specs.Syntax.{Expr, fixed, var, lane, group, lanes, plus, minus, times, over, rest_of, less, same, Body, end, put, read_shared, write_shared, read_all, write_all, barrier, when, while, Program, ended}
 use Rattle.lanes.specs.Told.{BodyFits}

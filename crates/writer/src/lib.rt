@@ -1,3 +1,5 @@
 // A program's text written anew.
+#![tactic(auto)]
+
 pub mod anew;
 mod copy;

@@ -1,4 +1,3 @@
-use Rattle.std.proofs.Common.{arith}
 use Rattle.std.proofs.lemmas.Nat.{trailing_le}
 use Rattle.masks.proofs.Counts.{lowest_on, below-off}
 use Rattle.masks.proofs.lowest.Goals as goal

@@ -1,5 +1,5 @@
 use Rattle.masks.specs.Masks.{lacking}
-use Rattle.masks.proofs.Bits.{on-lacking, lacking-is}
+use Rattle.masks.proofs.Bits.{on-lacking}
 use Rattle.std.proofs.Common.{refl}
 use Rattle.masks.proofs.without.Goals as goal
 

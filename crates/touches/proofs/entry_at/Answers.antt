@@ -1,4 +1,3 @@
-use Rattle.std.proofs.Common.{rules}
 use Rattle.touches.specs.Code.{entry_of}
 use Rattle.touches.proofs.entry_at.Goals as goal
 

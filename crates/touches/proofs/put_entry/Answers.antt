@@ -1,4 +1,3 @@
-use Rattle.std.proofs.Common.{rules}
 use Rattle.touches.specs.Code.{entry_put}
 use Rattle.touches.proofs.put_entry.Goals as goal
 

@@ -1,4 +1,4 @@
-use Rattle.std.proofs.Common.{◌≡◌, ◌+◌, ◌*◌, ◌<◌, ◌≤◌, length, refl, arith}
+use Rattle.std.proofs.Common.{refl, arith}
 use Rattle.touches.proofs.Whole.{room_for, touched-as}
 use Rattle.touches.proofs.Neighbours.{row-of-one}
 use Rattle.touches.proofs.touch.Goals as goal

@@ -1,4 +1,4 @@
-use Rattle.std.proofs.Common.{◌≡◌, ℕ, List, length, sym, refl, subst, arith, rules}
+use Rattle.std.proofs.Common.{ℕ, List, length, sym, refl, subst, arith}
 use Rattle.formats.specs.Printed.{printed}
 use Rattle.formats.specs.Wrote.{Wrote}
 use Rattle.calls.proofs.Answering.{lent, bytes-there, granted-few, some_lane, for-any, starts, field-long, printed-there, told-right}

@@ -1,4 +1,4 @@
-use Rattle.std.proofs.Common.{◌≡◌, ℕ, sym, subst, arith, rules}
+use Rattle.std.proofs.Common.{ℕ, subst, arith, rules}
 use Rattle.lanes.specs.Syntax.{Program}
 use Rattle.lanes.specs.Grid.{Grid, begin}
 use Rattle.code.specs.Lines.{left_at, lines_of}

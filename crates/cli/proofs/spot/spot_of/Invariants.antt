@@ -1,4 +1,4 @@
-use Rattle.std.proofs.Common.{◌≡◌, ℕ, suc, ◌<◌, ◌≤◌, length, get_or, take}
+use Rattle.std.proofs.Common.{◌≡◌, ℕ, suc, ◌<◌, ◌≤◌, get_or, take}
 use Rattle.cli.specs.Spot.{newlines}
 use Rattle.cli.proofs.spot.spot_of.Given as goal
 

@@ -1,10 +1,6 @@
-use Rattle.std.proofs.Common.{◌≡◌, ℕ, suc, ◌+◌, ◌-◌, ◌<◌, ◌≤◌, true, false, sym, refl, ap, ◌∙◌, subst, inl, inr, arith, rules}
-use Rattle.lanes.specs.Syntax.{Body}
-use Rattle.code.specs.declared.scan.Line.TheVariants.{Test, Loop}
-use Rattle.code.specs.Make.{Given, Branches}
+use Rattle.std.proofs.Common.{◌≡◌, suc, ◌-◌, ◌≤◌, true, false, sym, arith, rules}
 use Rattle.code.proofs.Inside.{kept-wider, kept-both, kept-none, wrote_kept}
 use Rattle.code.proofs.Makes.{given_first, first_room, given_else, last_room, branch_part}
-use Rattle.code.proofs.Bodies.{branching}
 use Rattle.code.proofs.Parts.{option-weaker, branch-deep, part_none, given-rest, part-more, stops-done, goes-room, plain-part, is_branch, flat-rest, no_else, given-second, second_none, second-some}
 use Rattle.code.proofs.compile.+compile_branch_compile_line_compile_lines_else_lines.Goals as goal
 

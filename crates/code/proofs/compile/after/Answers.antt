@@ -1,4 +1,4 @@
-use Rattle.std.proofs.Common.{arith, rules}
+use Rattle.std.proofs.Common.{arith}
 use Rattle.code.specs.Make.{NextLine}
 use Rattle.code.proofs.compile.after.Goals as goal
 

@@ -1,4 +1,4 @@
-use Rattle.std.proofs.Common.{◌≡◌, ℕ, ◌-◌, ◌≤◌, List, length}
+use Rattle.std.proofs.Common.{◌≡◌, ℕ, ◌-◌, ◌≤◌, List}
 use Rattle.lanes.specs.Syntax.{Body}
 use Rattle.grammar.specs.Spelling.{Named}
 use Rattle.code.specs.Words.{step_at}

@@ -1,4 +1,4 @@
-use Rattle.std.proofs.Common.{◌≡◌, sym, ◌∙◌, arith}
+use Rattle.std.proofs.Common.{sym, ◌∙◌}
 use Rattle.code.proofs.Exprs.{bracket-ends, word-ends-at}
 use Rattle.code.proofs.scan.expr_end.Goals as goal
 

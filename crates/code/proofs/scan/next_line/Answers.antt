@@ -1,4 +1,4 @@
-use Rattle.std.proofs.Common.{◌≡◌, ◌+◌, ◌<◌, ◌≤◌, [], ◌∷◌, ◌++◌, length, ap, ◌∙◌, arith}
+use Rattle.std.proofs.Common.{arith}
 use Rattle.code.proofs.Texts.{drop-behind, line-ends, no_line}
 use Rattle.code.proofs.scan.next_line.Goals as goal
 

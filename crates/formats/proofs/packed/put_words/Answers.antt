@@ -1,4 +1,4 @@
-use Rattle.std.proofs.Common.{◌≡◌, ◌≤◌, length, arith}
+use Rattle.std.proofs.Common.{◌≤◌, length, arith}
 use Rattle.std.proofs.lemmas.List.{take_all}
 use Rattle.formats.proofs.Lines.{bytes-none, bytes-step}
 use Rattle.formats.proofs.packed.put_words.Goals as goal

@@ -1,6 +1,5 @@
-use Rattle.std.proofs.Common.{◌≡◌, ◌+◌, ◌/◌, ◌^◌, ◌<◌, ◌≤◌, length, decimal, sym, arith}
+use Rattle.std.proofs.Common.{◌/◌, sym, arith}
 use Rattle.std.proofs.lemmas.Fmt.{decimal_digit, decimal_step, length-decimal-le}
-use Rattle.formats.specs.Wrote.{Wrote}
 use Rattle.formats.proofs.Pieces.{wrote-both}
 use Rattle.formats.proofs.pen.+put_decimal.Goals as goal
 

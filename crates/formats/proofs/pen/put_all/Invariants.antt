@@ -1,4 +1,4 @@
-use Rattle.std.proofs.Common.{◌+◌, take}
+use Rattle.std.proofs.Common.{take}
 use Rattle.formats.specs.Wrote.{Wrote}
 use Rattle.formats.proofs.pen.put_all.Given as goal
 

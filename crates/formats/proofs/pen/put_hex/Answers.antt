@@ -1,4 +1,4 @@
-use Rattle.std.proofs.Common.{◌≡◌, ◌+◌, arith}
+use Rattle.std.proofs.Common.{arith}
 use Rattle.formats.specs.Hex.{hex_eight}
 use Rattle.formats.proofs.Pieces.{wrote-more}
 use Rattle.formats.proofs.pen.put_hex.Goals as goal

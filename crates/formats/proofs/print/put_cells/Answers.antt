@@ -1,4 +1,4 @@
-use Rattle.std.proofs.Common.{◌≡◌, ◌≤◌, length, arith}
+use Rattle.std.proofs.Common.{◌≤◌, length, arith}
 use Rattle.std.proofs.lemmas.List.{take_all}
 use Rattle.formats.proofs.Lines.{lines_none, lines_step}
 use Rattle.formats.proofs.print.put_cells.Goals as goal

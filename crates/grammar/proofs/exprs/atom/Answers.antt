@@ -1,8 +1,6 @@
-use Rattle.std.proofs.Common.{◌≡◌, true, false, get_or, Ok, Err, sym, refl, ap, ◌∙◌, arith}
-use Rattle.std.proofs.lemmas.Bool.Decides.{nat_tests}
+use Rattle.std.proofs.Common.{◌≡◌, Ok, Err, sym, refl, ◌∙◌}
 use Rattle.std.proofs.lemmas.Result.{err_from_is_err_and}
 use Rattle.grammar.specs.declared.refusals.Refusal.TheVariants.{Shape}
-use Rattle.grammar.specs.Spelling.{digit}
 use Rattle.grammar.specs.Walk.{place_in, word_atom}
 use Rattle.grammar.proofs.Atoms.{atom-small, atom-large, atom-err, atom-word}
 use Rattle.grammar.proofs.exprs.atom.Goals as goal

@@ -1,7 +1,4 @@
-use Rattle.std.proofs.Common.{◌≡◌, sym, refl, ap, ◌∙◌}
 use Rattle.std.proofs.lemmas.Result.{err_from_is_err_and}
-use Rattle.grammar.specs.Walk.{place_in}
-use Rattle.grammar.proofs.Atoms.{then-err, then_ok}
 use Rattle.grammar.proofs.Linewalks.{closed-err, closed-ok}
 use Rattle.grammar.proofs.lines.closed.Goals as goal
 

@@ -1,11 +1,11 @@
-use Rattle.std.proofs.Common.{◌≡◌, ℕ, List, length, sym, refl, ap, ◌∙◌}
+use Rattle.std.proofs.Common.{◌≡◌, ℕ, List, length, ◌∙◌}
 use Rattle.grammar.specs.Spelling.{Named}
 use Rattle.grammar.specs.Names.{NamesIn}
 use Rattle.grammar.specs.Walk.{place_in}
 use Rattle.grammar.specs.WalkLine.{line_at}
 use Rattle.grammar.proofs.Linewalks.{line_is}
 use Rattle.grammar.proofs.Linehere.{line-done}
-use Rattle.grammar.proofs.Soundline.{line_sound, line_made}
+use Rattle.grammar.proofs.Soundline.{line_made}
 use Rattle.grammar.proofs.Nameds.{place-named, named-place, named-name}
 use Rattle.grammar.proofs.lines.parse_line.Goals as goal
 

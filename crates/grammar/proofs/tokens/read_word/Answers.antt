@@ -1,5 +1,5 @@
-use Rattle.std.proofs.Common.{◌≡◌, ◌<◌, ◌≤◌, true, false, length, get_or, Some, None, sym, refl, ◌∙◌, arith}
-use Rattle.grammar.specs.Spelling.{letter, word_byte}
+use Rattle.std.proofs.Common.{◌<◌, length, Some, None, sym, refl, arith}
+use Rattle.grammar.specs.Spelling.{letter}
 use Rattle.grammar.specs.Walk.{place_in}
 use Rattle.grammar.proofs.Runs.{nonzero}
 use Rattle.grammar.proofs.Walks.{word-not, word-long, word-is, place_is}

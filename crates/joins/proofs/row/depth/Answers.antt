@@ -1,4 +1,4 @@
-use Rattle.std.proofs.Common.{◌≡◌, ℕ, ◌*◌, min, sym, ◌∙◌, ap₂, arith}
+use Rattle.std.proofs.Common.{◌≡◌, ℕ, ◌*◌, min, ◌∙◌, ap₂, arith}
 use Rattle.joins.specs.Stack.{depth_of}
 use Rattle.joins.proofs.Stackframes.{depth-most}
 use Rattle.joins.proofs.row.depth.Goals as goal

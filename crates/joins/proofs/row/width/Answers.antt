@@ -1,4 +1,4 @@
-use Rattle.std.proofs.Common.{◌≡◌, refl, arith}
+use Rattle.std.proofs.Common.{arith}
 use Rattle.joins.specs.Stack.{width_of}
 use Rattle.joins.proofs.row.width.Goals as goal
 

@@ -1,4 +1,4 @@
-use Rattle.std.proofs.Common.{◌≡◌, ℕ, sym, ap, ◌∙◌, arith}
+use Rattle.std.proofs.Common.{ap, ◌∙◌, arith}
 use Rattle.masks.specs.Masks.{lacking}
 use Rattle.joins.specs.declared.Join.{Join}
 use Rattle.joins.proofs.Stackframes.{stacked-none}

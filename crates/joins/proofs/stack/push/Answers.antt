@@ -1,5 +1,5 @@
-use Rattle.std.proofs.Common.{◌≡◌, refl, arith}
-use Rattle.joins.proofs.Stackframes.{stacked-none, stacked-both}
+use Rattle.std.proofs.Common.{arith}
+use Rattle.joins.proofs.Stackframes.{stacked-both}
 use Rattle.joins.proofs.Stackmoves.{pushed}
 use Rattle.joins.proofs.stack.push.Goals as goal
 

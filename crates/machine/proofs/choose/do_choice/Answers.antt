@@ -1,6 +1,6 @@
-use Rattle.std.proofs.Common.{◌≡◌, ℕ, ◌+◌, ◌-◌, ◌<◌, ◌≤◌, ◌++◌, sym, refl, ap, ◌∙◌, subst, arith}
+use Rattle.std.proofs.Common.{◌≡◌, ℕ, ◌+◌, sym, refl, subst, arith}
 use Rattle.machine.specs.declared.schedule.Choice.{Choice}
-use Rattle.machine.specs.declared.schedule.Choice.TheVariants.{Row, GoOn}
+use Rattle.machine.specs.declared.schedule.Choice.TheVariants.{Row}
 use Rattle.machine.specs.Line.{lanes_in, row_turns}
 use Rattle.machine.specs.Schedule.{CanDo}
 use Rattle.machine.specs.Verdict.{WentTo, MayGo}

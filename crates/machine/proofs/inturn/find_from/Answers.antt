@@ -1,4 +1,4 @@
-use Rattle.std.proofs.Common.{◌≡◌, ℕ, ◌+◌, ◌<◌, ◌≤◌, sym, refl, ◌∙◌, arith}
+use Rattle.std.proofs.Common.{sym, refl}
 use Rattle.store.specs.Lent.{grid_of}
 use Rattle.machine.proofs.Passing.{passed-lanes, passed_start, passed-group, passed-all}
 use Rattle.machine.proofs.inturn.find_from.Goals as goal

@@ -1,4 +1,4 @@
-use Rattle.std.proofs.Common.{ℕ, ◌-◌, ◌<◌, ◌≤◌, List}
+use Rattle.std.proofs.Common.{ℕ, ◌-◌, List}
 use Rattle.lanes.specs.Syntax.{Body}
 use Rattle.store.specs.Lent.{grid_of}
 use Rattle.machine.specs.Line.{Runs}

@@ -1,4 +1,4 @@
-use Rattle.std.proofs.Common.{◌≡◌, sym, ◌∙◌, arith}
+use Rattle.std.proofs.Common.{sym, ◌∙◌, arith}
 use Rattle.machine.proofs.Parted.{lanes-none, lanes-more, lanes-stop, lanes-phase}
 use Rattle.machine.proofs.lane.do_lanes.Goals as goal
 

@@ -1,6 +1,6 @@
-use Rattle.std.proofs.Common.{◌≡◌, ℕ, ◌+◌, ◌-◌, ◌<◌, ◌≤◌, min, length, sym, refl, ap, ◌∙◌, arith, length-take}
+use Rattle.std.proofs.Common.{◌≡◌, ◌-◌, min, length, arith, length-take}
 use native.Mathlib.Nat.{sub-zero}
-use Rattle.machine.proofs.Working.{row_at, row_fits, worked}
+use Rattle.machine.proofs.Working.{row_fits, worked}
 use Rattle.machine.proofs.line.values_of.Goals as goal
 
 pub eval_at-requires : goal.eval_at-requires

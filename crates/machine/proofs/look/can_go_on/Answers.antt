@@ -1,4 +1,4 @@
-use Rattle.std.proofs.Common.{◌≡◌, sym}
+use Rattle.std.proofs.Common.{sym}
 use Rattle.machine.proofs.Stances.{cannot-outside}
 use Rattle.machine.proofs.Keeping.{all-waiting}
 use Rattle.machine.proofs.look.can_go_on.Goals as goal

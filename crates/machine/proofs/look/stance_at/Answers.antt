@@ -1,4 +1,4 @@
-use Rattle.std.proofs.Common.{◌≡◌, sym, ap, ◌∙◌, subst}
+use Rattle.std.proofs.Common.{sym, ap, ◌∙◌, subst}
 use Rattle.grammar.specs.Spelling.{Named}
 use Rattle.code.specs.Words.{step_at}
 use Rattle.machine.specs.declared.look.Stance.{Stance}

@@ -1,7 +1,7 @@
-use Rattle.std.proofs.Common.{◌≡◌, ℕ, suc, ◌<◌, ◌≤◌, false, sym, ap, ◌∙◌, subst, arith}
+use Rattle.std.proofs.Common.{◌≡◌, ℕ, false, sym, subst, arith}
 use Rattle.code.specs.Code.{is_jump}
 use Rattle.code.specs.Words.{step_at}
-use Rattle.store.specs.Lent.{Lined, line_at}
+use Rattle.store.specs.Lent.{Lined}
 use Rattle.machine.specs.Choices.{StanceIs}
 use Rattle.machine.specs.Line.{Straight}
 use Rattle.machine.proofs.look.stance_of.Goals as goal

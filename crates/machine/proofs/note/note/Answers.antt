@@ -1,8 +1,6 @@
-use Rattle.std.proofs.Common.{◌≡◌, ℕ, ◌<◌, ◌≤◌, sym, refl, ap, ◌∙◌, subst, arith}
+use Rattle.std.proofs.Common.{◌<◌, sym, refl, subst, arith}
 use Rattle.lanes.specs.Grid.{marked}
 use Rattle.store.specs.declared.Deed.{Deed}
-use Rattle.touches.specs.declared.Who.{Who}
-use Rattle.machine.specs.declared.outcome.Race.{Race}
 use Rattle.machine.specs.Sofar.{layout, Doing}
 use Rattle.machine.proofs.Noted.{AfterRace, noted-quiet, noted-wrong, noted-kept, noted-raced, keepable, rising}
 use Rattle.machine.proofs.note.note.Goals as goal

@@ -1,4 +1,4 @@
-use Rattle.std.proofs.Common.{◌≡◌, ℕ, ◌∙◌, subst, not-suc-le-zero, arith}
+use Rattle.std.proofs.Common.{◌≡◌, ◌∙◌, not-suc-le-zero, arith}
 use Rattle.machine.proofs.Preparing.{kept-none, kept_more, ready-more, prepared}
 use Rattle.machine.proofs.prepare.prepare.Goals as goal
 

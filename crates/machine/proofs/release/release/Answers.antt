@@ -1,4 +1,4 @@
-use Rattle.std.proofs.Common.{◌≡◌, ℕ, suc, ◌<◌, ◌≤◌, sym, ◌∙◌, subst, arith}
+use Rattle.std.proofs.Common.{suc, arith}
 use Rattle.machine.proofs.Going.{lined-up, went_on}
 use Rattle.machine.proofs.release.release.Goals as goal
 

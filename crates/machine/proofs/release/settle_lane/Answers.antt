@@ -1,4 +1,4 @@
-use Rattle.std.proofs.Common.{◌≡◌, ℕ, ◌<◌, ◌≤◌, sym, refl, ◌∙◌, subst, arith}
+use Rattle.std.proofs.Common.{ℕ, subst, arith}
 use Rattle.code.specs.Words.{step_at}
 use Rattle.code.specs.Code.{Settled}
 use Rattle.machine.proofs.Settling.{settled-then, settled-else, line_within}

@@ -1,4 +1,4 @@
-use Rattle.std.proofs.Common.{◌≡◌, sym, refl}
+use Rattle.std.proofs.Common.{sym, refl}
 use Rattle.machine.proofs.Ones.{one-can, step_in}
 use Rattle.machine.proofs.replay.choice_of.Goals as goal
 

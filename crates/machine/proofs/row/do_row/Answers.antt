@@ -1,4 +1,3 @@
-use Rattle.std.proofs.Common.{◌≡◌, sym, refl, ap, ◌∙◌}
 use Rattle.machine.proofs.Running.{masked}
 use Rattle.machine.proofs.row.do_row.Goals as goal
 

@@ -1,4 +1,4 @@
-use Rattle.std.proofs.Common.{ℕ, ◌<◌, ◌≤◌, arith, below_more}
+use Rattle.std.proofs.Common.{arith, below_more}
 use Rattle.machine.proofs.run.over.Goals as goal
 
 pub loop-g-init : goal.loop-g-init

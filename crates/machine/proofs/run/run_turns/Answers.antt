@@ -1,4 +1,4 @@
-use Rattle.std.proofs.Common.{◌≡◌, ℕ, ◌+◌, ◌*◌, ◌<◌, ◌≤◌, length, sym, refl, ap, ◌∙◌, subst, arith}
+use Rattle.std.proofs.Common.{ℕ, ◌<◌, sym, refl, ◌∙◌, subst, arith}
 use Rattle.store.specs.Lent.{grid_of}
 use Rattle.machine.proofs.Overs.{falls, left-same}
 use Rattle.machine.specs.Verdict.{left_over, all_turns}

@@ -1,4 +1,4 @@
-use Rattle.std.proofs.Common.{◌≡◌, vec_items, sym, ◌∙◌, arith}
+use Rattle.std.proofs.Common.{vec_items, arith}
 use Rattle.machine.proofs.Scripted.{turn-forward, turns_more, turns-none}
 use Rattle.machine.proofs.script.read_turns.Goals as goal
 

@@ -1,5 +1,4 @@
-use Rattle.std.proofs.Common.{◌≡◌, ℕ, ◌+◌, ◌<◌, ◌≤◌, false, sym, refl, ap, ◌∙◌, subst, arith}
-use Rattle.lanes.specs.Syntax.{Body}
+use Rattle.std.proofs.Common.{◌≡◌, ℕ, ◌+◌, false, sym, subst, arith}
 use Rattle.code.specs.Code.{is_jump}
 use Rattle.code.specs.Words.{step_at}
 use Rattle.store.specs.Lent.{line_at}

@@ -1,13 +1,9 @@
-use Rattle.std.proofs.Common.{◌≡◌, ℕ, ◌+◌, ◌<◌, ◌≤◌, Bool, true, false, ◌⊎◌, sym, refl, ap, ◌∙◌, subst, inl, inr, add-zero, arith}
-use Rattle.std.proofs.lemmas.Bool.{both_ways, cases_Bool}
-use Rattle.lanes.specs.Syntax.{Body}
+use Rattle.std.proofs.Common.{◌≡◌, ℕ, ◌+◌, true, false, sym, refl, ap, ◌∙◌, subst, arith}
 use Rattle.code.specs.Code.{is_jump}
 use Rattle.code.specs.Words.{step_at}
 use Rattle.store.specs.Lent.{line_at}
-use Rattle.store.proofs.Counts.{many-few, many-none}
 use Rattle.machine.specs.Choices.{StanceIs}
 use Rattle.machine.specs.Line.{on, lanes_in}
-use Rattle.machine.specs.Tally.{CountsSo, with_lanes_spec}
 use Rattle.machine.proofs.Ones.{one_on}
 use Rattle.machine.proofs.Tallying.{none, counts_all, counts-empty, lanes-many, one_lane, lanes_few, few-with}
 use Rattle.machine.proofs.tally.row_counts.Goals as goal

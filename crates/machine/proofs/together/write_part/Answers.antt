@@ -1,5 +1,4 @@
-use Rattle.std.proofs.Common.{◌≡◌, ℕ, ◌+◌, ◌<◌, ◌≤◌, length, get_or, sym, refl, ◌∙◌, arith}
-use Rattle.store.specs.Layout.{size, whose}
+use Rattle.std.proofs.Common.{length, refl, ◌∙◌, arith}
 use Rattle.machine.proofs.Cellwise.{many-some, small-place, write_done}
 use Rattle.machine.proofs.together.write_part.Goals as goal
 

@@ -1,4 +1,4 @@
-use Rattle.std.proofs.Common.{◌+◌, refl}
+use Rattle.std.proofs.Common.{refl}
 use Rattle.masks.proofs.Spanning.{span_none, span-some}
 use Rattle.masks.proofs.spans.span_at.Goals as goal
 

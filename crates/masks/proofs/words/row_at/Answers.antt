@@ -1,4 +1,4 @@
-use Rattle.std.proofs.Common.{◌≡◌, ℕ, ◌%◌, ◌^◌, ◌<◌, Bool, true, false, cond, ◌&&◌, eqb, ltb, List, map, length, get_or, take, drop, replicate, sym, refl, ap, ◌∙◌, arith, w32}
+use Rattle.std.proofs.Common.{◌≡◌, ℕ, ◌%◌, ◌<◌, ◌&&◌, eqb, ltb, List, map, length, get_or, replicate, arith, w32}
 use lib.Lanes.{mask_l, top, zip2, chunk}
 use borrow.Rule.Simd.Lanes.{act2}
 use borrow.Table.Row.{s_int}

@@ -1,4 +1,4 @@
-use Rattle.std.proofs.Common.{◌≡◌, sym, refl, ap, ◌∙◌, arith}
+use Rattle.std.proofs.Common.{sym, ◌∙◌, arith}
 use Rattle.grammar.specs.Walk.{place_in}
 use Rattle.reader.proofs.Nexts.{made_all, next-many, next-same, next-other, next-deep, next-go}
 use Rattle.reader.proofs.blocks.next_line.Goals as goal

@@ -1,7 +1,5 @@
-use Rattle.std.proofs.Common.{◌≡◌, ◌-◌, ◌<◌, ◌≤◌, sym, refl, ap, ◌∙◌, arith}
+use Rattle.std.proofs.Common.{◌-◌, ◌≤◌, sym}
 use Rattle.std.proofs.lemmas.Result.{err_from_is_err_and}
-use Rattle.grammar.specs.Spelling.{digit}
-use Rattle.reader.specs.Heads.{is_cells_spec}
 use Rattle.reader.proofs.Names.{cells-none, cells-err, cells-not, cells-many, cells-long, cells_cut, cells-ok}
 use Rattle.reader.proofs.heads.cells_line.Goals as goal
 

@@ -1,4 +1,4 @@
-use Rattle.std.proofs.Common.{◌≡◌, ◌<◌, ◌≤◌, true, false, length, get_or, sym, refl, ap, ◌∙◌, arith}
+use Rattle.std.proofs.Common.{◌<◌, length, sym, refl, arith}
 use Rattle.grammar.specs.Spelling.{letter}
 use Rattle.grammar.proofs.Runs.{nonzero}
 use Rattle.reader.proofs.Names.{name-not, name_long, name-key, name-twice, name-many, name-ok}

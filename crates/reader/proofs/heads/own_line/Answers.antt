@@ -1,11 +1,11 @@
-use Rattle.std.proofs.Common.{◌≡◌, ℕ, ◌+◌, ◌-◌, ◌<◌, ◌≤◌, List, [], ◌∷◌, ◌++◌, length, get_or, drop, Ok, Err, sym, refl, ap, ◌∙◌, arith}
+use Rattle.std.proofs.Common.{◌≡◌, ◌+◌, ◌-◌, [], ◌∷◌, ◌++◌, length, Ok, sym, refl, ap, ◌∙◌, arith}
 use Rattle.std.proofs.lemmas.List.{length_push}
 use Rattle.std.proofs.lemmas.Result.{err_from_is_err_and}
 use Rattle.grammar.specs.Walk.{word_part}
-use Rattle.reader.specs.Heads.{counted, name_at}
+use Rattle.reader.specs.Heads.{counted}
 use Rattle.reader.proofs.Nexts.{then-err, then_ok}
 use Rattle.reader.proofs.Names.{own-none, own-some, names-step}
-use Rattle.reader.proofs.Owns.{Walk, walk_start, walk-on, walk-words, names-on, names-end, name-sound}
+use Rattle.reader.proofs.Owns.{walk_start, walk-on, walk-words, names-on, names-end, name-sound}
 use Rattle.reader.proofs.heads.own_line.Goals as goal
 
 pub returns-then-not-is_own : goal.returns-then-not-is_own

@@ -1,4 +1,4 @@
-use Rattle.std.proofs.Common.{◌≡◌, ℕ, ◌-◌, ◌≤◌, List, ◌++◌, length, drop}
+use Rattle.std.proofs.Common.{◌≡◌, ℕ, ◌-◌, ◌≤◌, List, length}
 use Rattle.reader.specs.Heads.{names_at, own_at}
 use Rattle.reader.proofs.Owns.{Walk}
 use Rattle.reader.proofs.heads.own_line.Given as goal

@@ -1,4 +1,3 @@
-use Rattle.std.proofs.Common.{◌≡◌, sym, refl, ap, ◌∙◌}
 use Rattle.std.proofs.lemmas.Result.{err_from_is_err_and}
 use Rattle.reader.proofs.Whole.{break-own, break-cells, break-stop, break-end, read_walk, read_taken}
 use Rattle.reader.proofs.Goesonread.{goes_on}

@@ -1,5 +1,4 @@
-use Rattle.std.proofs.Common.{◌≡◌, ℕ, ◌-◌, ◌<◌, ◌≤◌, Bool, true, false, not, ◌&&◌, sym, refl, ap, ◌∙◌, subst, arith}
-use Rattle.masks.specs.Masks.{on}
+use Rattle.std.proofs.Common.{◌≡◌, sym, subst, arith}
 use Rattle.code.specs.Words.{step_at}
 use Rattle.joins.specs.Stack.{width_of, join_at, depth_of}
 use Rattle.rows.specs.declared.look.Look.{Look}

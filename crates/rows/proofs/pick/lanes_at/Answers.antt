@@ -1,6 +1,5 @@
-use Rattle.std.proofs.Common.{◌≡◌, ℕ, ◌+◌, ◌-◌, ◌<◌, ◌≤◌, min, ◌&&◌, eqb, ltb, length, get_or, sym, refl, ap, ◌∙◌, arith, rules}
+use Rattle.std.proofs.Common.{◌+◌, ◌≤◌, ◌&&◌, eqb, ltb, length, get_or, ap, ◌∙◌, arith, rules}
 use Rattle.rows.specs.Pick.{stands_at}
-use Rattle.store.specs.Layout.{place_of, room}
 use Rattle.rows.proofs.Parts.{width-within, part-fits, row_words, part_length, part_at}
 use Rattle.rows.proofs.pick.lanes_at.Goals as goal
 

@@ -1,4 +1,4 @@
-use Rattle.std.proofs.Common.{◌≡◌, ℕ, ◌+◌, ◌%◌, sym, refl, ◌∙◌, subst, arith}
+use Rattle.std.proofs.Common.{◌≡◌, ◌+◌, ◌%◌, sym, refl, ◌∙◌, subst, arith}
 use Rattle.joins.specs.Stack.{RowAt}
 use Rattle.machine.proofs.Aside.{aside_none, aside-both, aside-grid, aside-runs}
 use Rattle.rows.specs.Lockstep.{RowsFind}

@@ -1,4 +1,3 @@
-use Rattle.std.proofs.Common.{◌≡◌, refl}
 use Rattle.joins.proofs.Stackframes.{stacked-none, stacked-both}
 use Rattle.rows.proofs.Rowsteps.{row_fits, row-left}
 use Rattle.rows.proofs.Rowmasks.{line-there, named-does, named-rests, row-less}

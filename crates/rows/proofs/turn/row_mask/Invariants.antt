@@ -1,5 +1,4 @@
-use Rattle.std.proofs.Common.{ℕ, ◌<◌, List}
-use Rattle.lanes.specs.Syntax.{Body}
+use Rattle.std.proofs.Common.{List}
 use Rattle.lanes.specs.Grid.{Turn}
 use Rattle.code.specs.Words.{step_at}
 use Rattle.code.specs.Joins.{Regions}

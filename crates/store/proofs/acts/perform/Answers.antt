@@ -1,4 +1,4 @@
-use Rattle.std.proofs.Common.{◌≡◌, get_or, set, refl, ap}
+use Rattle.std.proofs.Common.{get_or, set, refl, ap}
 use Rattle.store.proofs.Deeds.{done-put, done-read, done-write, missed-read, missed-write, done-branch, placed_at}
 use Rattle.store.proofs.acts.perform.Goals as goal
 

@@ -1,5 +1,4 @@
-use Rattle.std.proofs.Common.{◌≡◌, ◌+◌, ◌-◌, ◌*◌, ◌<◌, ◌≤◌, length, take, sym, ap, ◌∙◌, arith, length-take}
-use Rattle.store.specs.Layout.{room}
+use Rattle.std.proofs.Common.{◌≡◌, ◌*◌, length, arith, length-take}
 use Rattle.store.proofs.Begins.{started, front-clear, rest-kept}
 use Rattle.store.proofs.fresh.start.Goals as goal
 

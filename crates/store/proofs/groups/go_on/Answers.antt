@@ -1,7 +1,6 @@
-use Rattle.std.proofs.Common.{◌≡◌, ℕ, ◌+◌, ◌<◌, ◌≤◌, length, set, sym, refl, ap, ◌∙◌, arith}
-use Rattle.store.specs.Layout.{Sized, place_of, room}
-use Rattle.store.specs.Lent.{Lined, phase_of_spec, line_at}
-use Rattle.store.specs.Acts.{Further}
+use Rattle.std.proofs.Common.{◌≡◌, ◌<◌, ◌≤◌, length, ◌∙◌, arith}
+use Rattle.store.specs.Layout.{room}
+use Rattle.store.specs.Lent.{Lined}
 use Rattle.store.proofs.Goes.{further-none, further-more, released, further-phase, further-line}
 use Rattle.store.proofs.groups.go_on.Goals as goal
 

@@ -1,5 +1,4 @@
-use Rattle.std.proofs.Common.{◌≡◌, ◌+◌, ◌/◌, ◌%◌, set, ap, ◌∙◌}
-use Rattle.store.specs.Layout.{place_of}
+use Rattle.std.proofs.Common.{◌+◌, ◌/◌, ◌%◌, ap, ◌∙◌}
 use Rattle.store.proofs.Goes.{put-phase, two-words}
 use Rattle.store.proofs.groups.raise_phase.Goals as goal
 

@@ -1,5 +1,4 @@
-use Rattle.std.proofs.Common.{◌≡◌, ◌+◌, ◌-◌, ◌≤◌, length, sym, ◌∙◌, arith, rules}
-use Rattle.store.specs.Layout.{place_of, room}
+use Rattle.std.proofs.Common.{◌≡◌, length, arith, rules}
 use Rattle.store.proofs.Written.{row-range, row_written}
 use Rattle.store.proofs.rows.fill_row.Goals as goal
 

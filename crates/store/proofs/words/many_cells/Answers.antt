@@ -1,5 +1,5 @@
 use Rattle.std.proofs.Common.{refl}
-use Rattle.store.specs.Layout.{size, whose}
+use Rattle.store.specs.Layout.{size}
 use Rattle.store.proofs.words.many_cells.Goals as goal
 
 pub returns-then-field : goal.returns-then-field

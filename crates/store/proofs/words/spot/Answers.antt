@@ -1,6 +1,6 @@
-use Rattle.std.proofs.Common.{◌≡◌, refl, arith}
+use Rattle.std.proofs.Common.{refl, arith}
 use lib.Arith.{digits_lt}
-use Rattle.store.specs.Layout.{base, size, whose}
+use Rattle.store.specs.Layout.{base, size}
 use Rattle.store.proofs.words.spot.Goals as goal
 
 pub returns-then-c-z : goal.returns-then-c-z

@@ -1,5 +1,5 @@
-use Rattle.std.proofs.Common.{◌≡◌, ◌+◌, ◌-◌, ◌<◌, ◌≤◌, refl, arith}
-use Rattle.store.specs.Layout.{base, size, whose, cells_room}
+use Rattle.std.proofs.Common.{◌+◌, ◌-◌, ◌≤◌, arith}
+use Rattle.store.specs.Layout.{size, whose}
 use Rattle.store.proofs.Cells.{whose-le, spot-lt}
 use Rattle.store.proofs.words.spot_row.Goals as goal
 

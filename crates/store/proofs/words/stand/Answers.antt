@@ -1,4 +1,4 @@
-use Rattle.std.proofs.Common.{set, refl, ap}
+use Rattle.std.proofs.Common.{set, ap}
 use Rattle.store.proofs.Grids.{settled}
 use Rattle.store.proofs.words.stand.Goals as goal
 

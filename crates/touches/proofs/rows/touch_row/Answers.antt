@@ -1,5 +1,4 @@
-use Rattle.std.proofs.Common.{◌≡◌, ◌+◌, true, false, sym, refl, ◌∙◌, arith}
-use Rattle.touches.specs.Rows.{kept_row, Calm}
+use Rattle.std.proofs.Common.{◌≡◌, ◌+◌, true, false, refl, arith}
 use Rattle.touches.proofs.Calm.{calm-yes, calm-no, calm-some}
 use Rattle.touches.proofs.Neighbours.{calm-none, calm_more, row-stopped}
 use Rattle.touches.proofs.rows.touch_row.Goals as goal

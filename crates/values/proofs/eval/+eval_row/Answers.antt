@@ -1,4 +1,4 @@
-use Rattle.std.proofs.Common.{◌≡◌, sym, ◌∙◌, arith, rules}
+use Rattle.std.proofs.Common.{sym, ◌∙◌, arith, rules}
 use Rattle.std.proofs.lemmas.List.{places}
 use Rattle.values.proofs.Bracketed.{cut_short, no-op, closed, unclosed}
 use Rattle.values.proofs.eval.+eval_row.Goals as goal

@@ -1,4 +1,4 @@
-use Rattle.std.proofs.Common.{◌≡◌, get_or, drop, ap, ◌∙◌, arith}
+use Rattle.std.proofs.Common.{get_or, drop, ap, ◌∙◌, arith}
 use Rattle.std.proofs.lemmas.List.{get_or-take, get_or-drop}
 use Rattle.values.proofs.eval.load.Goals as goal
 

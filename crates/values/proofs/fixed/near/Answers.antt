@@ -1,4 +1,4 @@
-use Rattle.std.proofs.Common.{◌<◌, arith, rules}
+use Rattle.std.proofs.Common.{◌<◌, rules}
 use Rattle.values.proofs.Dividing.{near-is}
 use Rattle.values.proofs.fixed.near.Goals as goal
 

@@ -1,4 +1,4 @@
-use Rattle.std.proofs.Common.{◌≡◌, ℕ, ◌%◌, ◌<◌, drop}
+use Rattle.std.proofs.Common.{◌≡◌, ◌%◌, ◌<◌, drop}
 use Rattle.lanes.specs.Step.{whole}
 use Rattle.grammar.specs.Spelling.{decimal}
 use Rattle.values.proofs.leaves.number_of.Given as goal

@@ -1,6 +1,5 @@
-use Rattle.std.proofs.Common.{◌≡◌, sym, refl, ap, ◌∙◌}
+use Rattle.std.proofs.Common.{sym, ◌∙◌}
 use Rattle.std.specs.List.{between}
-use Rattle.grammar.specs.Spelling.{digit}
 use Rattle.values.proofs.Words.{first-same, number-leaf, name-leaf, no-leaf}
 use Rattle.values.proofs.leaves.number_or_name.Goals as goal
 

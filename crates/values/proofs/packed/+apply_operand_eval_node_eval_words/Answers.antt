@@ -1,4 +1,4 @@
-use Rattle.std.proofs.Common.{◌≡◌, sym, refl, ◌∙◌, inl, inr}
+use Rattle.std.proofs.Common.{sym, refl, ◌∙◌, inl, inr}
 use Rattle.values.specs.Items.{NoLeaf}
 use Rattle.values.proofs.Unpacking.{unpacked-past, unpacked-none, unpacked-leaf, unpacked-apply}
 use Rattle.values.proofs.Flats.{operand-flat, operand-leaf}

@@ -1,4 +1,4 @@
-use Rattle.std.proofs.Common.{◌≡◌, ◌<◌, length, sym, ◌∙◌, inl, inr, arith}
+use Rattle.std.proofs.Common.{◌<◌, length, sym, ◌∙◌, inl, arith}
 use Rattle.values.proofs.Packing.{packed-node, node_kept}
 use Rattle.values.proofs.packed.+compact.Goals as goal
 

@@ -1,4 +1,4 @@
-use Rattle.std.proofs.Common.{◌≡◌, ℕ, sym, ◌∙◌, subst}
+use Rattle.std.proofs.Common.{ℕ, sym, ◌∙◌, subst}
 use Rattle.values.specs.Sides.{FlatAt}
 use Rattle.values.proofs.Flats.{flat-node}
 use Rattle.values.proofs.sides.flat_at.Goals as goal

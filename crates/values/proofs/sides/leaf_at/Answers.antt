@@ -1,4 +1,4 @@
-use Rattle.std.proofs.Common.{◌≡◌, ℕ, sym, refl, ap, ◌∙◌, inr}
+use Rattle.std.proofs.Common.{ℕ, sym, refl, ap, ◌∙◌, inr}
 use Rattle.std.proofs.lemmas.List.{get_or_past}
 use Rattle.values.specs.declared.leaves.Leaf.TheVariants.{Fixed}
 use Rattle.values.specs.Items.{item_of, NoLeaf}

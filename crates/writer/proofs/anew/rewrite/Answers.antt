@@ -1,4 +1,4 @@
-use Rattle.std.proofs.Common.{refl, ◌∙◌, arith, rules}
+use Rattle.std.proofs.Common.{◌∙◌, rules}
 use Rattle.writer.proofs.Heads.{one-program}
 use Rattle.writer.proofs.Lines.{anew, every-program}
 use Rattle.writer.proofs.Renewed.{renewed}

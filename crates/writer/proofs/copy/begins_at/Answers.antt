@@ -1,4 +1,4 @@
-use Rattle.std.proofs.Common.{◌≡◌, ℕ, ◌+◌, ◌<◌, ◌≤◌, length, drop, sym, ap, ◌∙◌, arith}
+use Rattle.std.proofs.Common.{ℕ, ◌+◌, drop, sym, ap, ◌∙◌, arith}
 use Rattle.writer.specs.Copy.{begins}
 use Rattle.writer.proofs.Copies.{begins-step, begins-differs, begins-short, begins-all}
 use Rattle.writer.proofs.copy.begins_at.Goals as goal

@@ -1,4 +1,4 @@
-use Rattle.std.proofs.Common.{◌≡◌, ◌+◌, ◌≤◌, length, drop}
+use Rattle.std.proofs.Common.{◌≡◌, ◌+◌, drop}
 use Rattle.writer.specs.Copy.{begins}
 use Rattle.writer.proofs.copy.begins_at.Given as goal
 

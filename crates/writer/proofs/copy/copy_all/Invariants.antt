@@ -1,4 +1,4 @@
-use Rattle.std.proofs.Common.{◌≡◌, ℕ, ◌≤◌, ◌++◌, length, get_or, take, drop}
+use Rattle.std.proofs.Common.{◌≡◌, ℕ, ◌≤◌, ◌++◌, get_or, take, drop}
 use Rattle.writer.specs.Copy.{copied, copy}
 use Rattle.writer.proofs.copy.copy_all.Given as goal
 

@@ -1,4 +1,4 @@
-use Rattle.std.proofs.Common.{length, get_or, sym, ◌∙◌, arith, get_or-set_other, rules}
+use Rattle.std.proofs.Common.{get_or, arith, get_or-set_other, rules}
 use Rattle.writer.proofs.Copies.{step_left, zero-step, byte_step}
 use Rattle.writer.proofs.copy.copy_byte.Goals as goal
 

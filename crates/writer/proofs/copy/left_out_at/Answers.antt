@@ -1,4 +1,4 @@
-use Rattle.std.proofs.Common.{length, drop, sym, ◌∙◌, arith, length-drop}
+use Rattle.std.proofs.Common.{drop, sym, ◌∙◌, arith, length-drop}
 use Rattle.writer.proofs.Copies.{left-else, left-none, left-short, left-cells-at, left-few-at, left-more-at}
 use Rattle.writer.proofs.copy.left_out_at.Goals as goal
 

@@ -1,4 +1,4 @@
-use Rattle.std.proofs.Common.{◌≡◌, ℕ, suc, ◌+◌, ◌<◌, ◌≤◌, length, drop, sym, ap, ◌∙◌, arith}
+use Rattle.std.proofs.Common.{◌≡◌, ℕ, ◌+◌, drop, ap, arith}
 use Rattle.writer.specs.Copy.{zeros}
 use Rattle.writer.proofs.Copies.{zeros-step, zeros-stop, zeros-past}
 use Rattle.writer.proofs.copy.zeros_at.Goals as goal

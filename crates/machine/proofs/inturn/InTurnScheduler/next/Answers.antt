@@ -1,4 +1,4 @@
-use Rattle.std.proofs.Common.{◌≡◌, Some, sym, subst}
+use Rattle.std.proofs.Common.{Some, sym, subst}
 use Rattle.lanes.specs.Grid.{Grid}
 use Rattle.machine.specs.declared.inturn.InTurn.{InTurn}
 use Rattle.machine.specs.Schedule.{Passed}

@@ -1,4 +1,4 @@
-use Rattle.std.proofs.Common.{◌≡◌, Some, sym, subst}
+use Rattle.std.proofs.Common.{Some, sym, subst}
 use Rattle.machine.specs.Carried.{Says}
 use Rattle.machine.proofs.Aside.{aside-runs}
 use Rattle.rows.specs.declared.rows.Rows.{Rows}

@@ -1,4 +1,6 @@
 // Writes a program's text anew.
+#![tactic(auto)]
+
 use std::io;
 
 const USAGE: &str =

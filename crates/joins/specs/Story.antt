@@ -1,7 +1,7 @@
 -- What happens in a row of lanes as it is told by whoever runs it, what must be so for it to be in order, and what follows: every lane
 -- that was in the mask at an if or a while comes to its join, once, no other lane does, and at the end no join is left open.
 use Rattle.std.specs.Prelude.{◌≡◌, ℕ, suc, ◌+◌, ◌*◌, ◌<◌, ◌≤◌, Bool, true, false, cond, ◌&&◌, ◌||◌, ◌⊎◌, List, [], ◌∷◌, length, Some, None, Option, ◌==◌}
-use Rattle.std.specs.List.{AllByRecursion as All}
+use Rattle.std.specs.List.{AllByRecursion}
 use Rattle.masks.specs.Masks.{on, lacking}
 use Rattle.code.specs.declared.step.Step.{Step}
 use Rattle.code.specs.declared.step.Step.TheVariants.{Put, Read, Write, Branch, Jump, Barrier, End}
@@ -235,7 +235,7 @@ pub record Kept (code : ℕ → Step) (w : ℕ) (h : Story) : Type 0 where
   pub room : length (open_joins h) ≤ 16 * w
   -- how the open joins are numbered, and what each is like
   pub falls : Falls (partings h) (open_joins h)
-  pub sound : All (Sound code w) (open_joins h)
+  pub sound : AllByRecursion (Sound code w) (open_joins h)
 
 -- So it is of every story that happened, where what stands in a branch of the steps stays in it until its lanes join.
 unfoldable pub JoinsKept : Type 0

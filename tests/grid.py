@@ -117,19 +117,16 @@ class Grid:
         self.phases = [0] * field.groups
         self.groups = [[Lane(self, g, k) for k in range(field.lanes)] for g in range(field.groups)]
         self.steps = 0
-        self.over = False  # more steps can be done than were granted
-        self.touches = {}  # for each place and cell, all its touches in order, those that are the same once
+        self.touches = {}  # for each place and cell, all its touches in order
         self.races = []  # pairs of touches that race, an earlier and a later one
         self.most_races = 1000000
 
     def touch(self, t):
-        earlier = self.touches.setdefault((t.where, t.cell), {})
-        if t in earlier:
-            return
+        earlier = self.touches.setdefault((t.where, t.cell), [])
         for s in earlier:
             if len(self.races) < self.most_races and race(s, t):
                 self.races.append((s, t))
-        earlier[t] = True
+        earlier.append(t)
 
     # Turns: ('of', group, lane) and ('release', group).
 

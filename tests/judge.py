@@ -5,31 +5,22 @@ import grid as grids
 import rows
 
 
-def taken(grid, turns, most):
-    """The turns of an order: given ones and then one lane after the other, or rows in lockstep. If more steps than `most` can be done
-    they are left out, and the grid is over."""
-    if turns == 'rows':
-        yield from rows.order(grid, most)
-        return
-    for turn in grids.order(grid, turns):
-        if turn[0] == 'of' and grid.steps == most:
-            grid.over = True
-            return
-        yield turn
+def taken(grid, turns):
+    """The turns of an order: given ones and then one lane after the other, or rows in lockstep."""
+    return rows.order(grid) if turns == 'rows' else grids.order(grid, turns)
 
 
 def tell(program, field, turns=()):
     """What is told first in this order, as printed, and the grid where it stopped."""
     grid = grids.Grid(program, field)
-    for turn in taken(grid, turns, field.steps):
-        assert grid.can(turn)
+    for turn in taken(grid, turns):
+        if turn[0] == 'of' and grid.steps == field.steps:
+            return 'too long\n', grid
         grid.do(turn)
         if grid.races:
             return grids.race_line(*grid.races[0]), grid
         if turn[0] == 'of' and grid.groups[turn[1]][turn[2]].wrong:
             return 'wrong group %d lane %d\n' % (turn[1], turn[2]), grid
-    if grid.over:
-        return 'too long\n', grid
     if grid.stuck():
         return 'stuck group %d\n' % grid.stuck()[0], grid
     return fields.printed(grid.field), grid
@@ -42,10 +33,11 @@ def kind(told):
 def to_the_end(program, field, turns, most):
     """The grid where nothing can go on, races and wrong lanes or not, or after so many steps; and whether it came there."""
     grid = grids.Grid(program, field)
-    for turn in taken(grid, turns, most):
-        assert grid.can(turn)
+    for turn in taken(grid, turns):
+        if turn[0] == 'of' and grid.steps == most:
+            return grid, False
         grid.do(turn)
-    return grid, not grid.over
+    return grid, True
 
 
 def race_lines(grid):

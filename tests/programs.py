@@ -9,7 +9,7 @@ from grid import Grid
 VALUES = ['a', 'b', 'c', 'd9', 'rain']
 COUNTERS = ['i', 'j', 'k', 'wind']
 MY_FIELD = ('+', ('lane',), ('*', ('group',), ('lanes',)))
-SIZES = [1, 2, 2, 3, 3, 4, 5, 7, 8, 16, 31, 32, 33, 33, 34, 40, 63, 64, 65, 70]
+SIZES = [1, 2, 2, 3, 3, 4, 5, 6, 7, 8, 9, 16, 31, 32, 33, 34, 63, 64, 65, 70]
 
 
 class Maker:
@@ -85,7 +85,7 @@ class Maker:
         return out
 
     def some(self, depth, together):
-        choice = self.random.randrange(16)
+        choice = self.random.randrange(14)
         if depth == 0 or choice < 6:
             return [self.simple()]
         if choice < 8:
@@ -112,48 +112,11 @@ class Maker:
             e, before, other = self.expression(), self.lines(0, False), self.lines(0, False)
             wait = self.barrier()
             return [('if', e, before + [wait] + self.lines(0, False), other + [wait] + self.lines(0, False))]
-        if choice == 13 and self.loops < 4:
-            return self.shared_out(depth)
-        if choice == 14 and self.loops < 4:
-            return self.in_three(depth)
         e = self.expression(1)
         wait = self.barrier()
         name = self.random.choice(VALUES)
         return [('put', COUNTERS[-1], e), ('if', ('own', COUNTERS[-1]), [wait], []), ('put', name, self.expression()),
                 ('if', ('=', ('own', COUNTERS[-1]), 0), [wait], [])] if self.loops < 4 else [wait]
-
-    # Barriers that each lane comes to as often as the others, but not at the same lines. How the areas are used stays as it is, since lanes
-    # of one phase stand at different lines here.
-
-    def waits(self, depth):
-        """Lines with one barrier for each lane, on one side of an if or the other, or by itself."""
-        wait = self.lines(depth, False) + [('barrier',)]
-        if self.one_in(2):
-            wait += self.lines(0, False)
-        if depth > 0 and self.one_in(2):
-            return [('if', self.expression(), wait, self.waits(depth - 1))]
-        return wait
-
-    def shared_out(self, depth):
-        """The barriers are shared out to two loops: lanes leave the first at different turns, and make up for it in the second."""
-        counter, many = COUNTERS[self.loops], self.random.choice([1, 2, 3])
-        more = [('put', counter, ('+', ('own', counter), 1))]
-        self.loops += 1
-        first, between, second = self.waits(depth - 1), self.lines(0, False), self.waits(depth - 1)
-        self.loops -= 1
-        return ([('put', counter, 0), ('while', ('<', ('own', counter), self.below(many + 1)), first + more)] + between
-                + [('while', ('<', ('own', counter), many), second + more)])
-
-    def in_three(self, depth):
-        """Lanes come to one join behind no barrier, one and two, and make up for it behind the join."""
-        counter = COUNTERS[self.loops]
-        self.loops += 1
-        two = [('barrier',), ('put', counter, 2)] + self.lines(depth - 1, False)
-        one = self.lines(0, False) + [('barrier',), ('put', counter, 1), ('if', self.expression(), two, self.lines(0, False))]
-        rest = self.lines(0, False) + [('barrier',), ('put', counter, ('+', ('own', counter), 1))]
-        none = self.lines(depth - 1, False)
-        self.loops -= 1
-        return [('put', counter, 0), ('if', self.expression(), one, none), ('while', ('<', ('own', counter), 2), rest)]
 
     # Things spoilt.
 
@@ -189,7 +152,7 @@ class Maker:
         return swapped
 
     def program(self):
-        lines = self.lines(self.random.choice([3, 3, 4, 5]), True)
+        lines = self.lines(3, True)
         while self.one_in(2) and len(lines) < 30:
             lines += self.lines(2, True)
         for _ in range(self.random.choice([0, 0, 1, 1, 2, 3])):

@@ -3,9 +3,7 @@
 Every look at an if pushes an entry for its lanes, whether or not they part; a look at a while pushes one only if the topmost entry of its lanes is
 not that while's already. An entry holds its lanes at its join, the end of the if or the line behind the end of the while. Next is, for a row: if
 all lanes of an entry are held at it they go on; else of the topmost entry that has lanes that can step those at the lowest line step
-together, lanes in no entry last; else the lanes that are held at the topmost such entry leave it and go on; else the row waits or has ended.
-Lanes go on from an entry as soon as all are held; a machine may as well let them go on later, once no lane of a newer entry can step: the
-masks are the same."""
+together; else the lanes that are held at the topmost such entry leave it and go on; else the row waits or has ended."""
 
 WIDTH = 32
 
@@ -132,9 +130,8 @@ class Row:
             self.settle(k)
 
 
-def order(grid, most):
-    """The turns of rows in lockstep, row after row and group after group, to where nothing can go on, or where a row's step would be more
-    steps of lanes than `most`: then the grid is over."""
+def order(grid):
+    """The turns of rows in lockstep, row after row and group after group, to where nothing can go on."""
     code = flat(grid.body)
     grid.rows = []
     for g in range(len(grid.groups)):
@@ -144,9 +141,6 @@ def order(grid, most):
             for row in rows:
                 mask = row.next_mask()
                 while mask:
-                    if grid.steps + len(mask) > most:
-                        grid.over = True
-                        return
                     yield from row.step(mask)
                     mask = row.next_mask()
             if not grid.can(('release', g)):

@@ -1,7 +1,7 @@
 -- What a plan gives: slices that are long enough, and a program to start.
-use Rattle.std.proofs.Common.{◌≡◌, ℕ, ◌+◌, ◌-◌, ◌*◌, ◌≤◌, List, [], length, get_or, take, drop, sym, ap, ◌∙◌, subst, inl, inr, not-suc-le-zero, mul_right_comm, arith, length-drop}
+use Rattle.std.proofs.Common.{◌≡◌, ℕ, ◌+◌, ◌-◌, ◌*◌, ◌≤◌, List, length, get_or, take, drop, sym, ap, ◌∙◌, subst, inl, inr, not-suc-le-zero, mul_right_comm, arith, length-drop}
 use Rattle.std.proofs.lemmas.List.{get_or-take, get_or-drop, length-take-le}
-use Rattle.lanes.specs.Syntax.{Program, Body}
+use Rattle.lanes.specs.Syntax.{Program}
 use Rattle.lanes.specs.Grid.{Grid, Turn, of, release, begin}
 use Rattle.lanes.specs.Told.{Shows}
 use Rattle.lanes.specs.Told as meaning
@@ -18,7 +18,7 @@ use Rattle.machine.specs.Schedule.{Before, Passed}
 use Rattle.machine.specs.Verdict.{told_of}
 use Rattle.writer.proofs.Heads.{one-program}
 use Rattle.calls.specs.declared.plan.Plan.{Plan}
-use Rattle.calls.specs.Load.{For, Starts, ReadyForAny}
+use Rattle.calls.specs.Load.{For, Starts}
 use Rattle.calls.specs.Judge.{Judged}
 use Rattle.calls.specs.Plan.{plan_of_spec, Plans}
 use Rattle.calls.specs.Tell.{OnePlace}
@@ -78,11 +78,12 @@ module _ (text bytes : List ℕ) (room : Room) (p : Plan) (pl : Plans text bytes
   for-one ns q steps e t o s =
       subst (λ (x : Plan). For ns q x.sizes text steps) (sym pl.plan) (record { taken = t; owns = o; shared = s; steps_fit = omega (arith, pl.steps_fit, pl.read.lines) })
 
-  pub starts : (steps : List ℕ) → length steps ≡ room.steps → Starts p.sizes text steps
-  starts steps e = record {
+  pub starts : {S : Type 0} (knows : S → ℕ → Grid → Type 0) (s : S) (steps : List ℕ) → length steps ≡ room.steps → ((n : ℕ) (d : Grid) → knows s n d) → Starts knows s p.sizes text bytes steps
+  starts knows s steps e k = record {
     ns = pl.read.names;
     program = pl.read.program;
     for_it = for-one pl.read.names pl.read.program steps e pl.read.taken pl.read.owns pl.read.cells;
+    ready = k _ _;
   }
 
   -- a text is one program at most
@@ -110,9 +111,3 @@ passed_none n d t b = absurd (none t b)
     none (of h k) (inl x) = not-suc-le-zero x
     none (of h k) (inr x) = not-suc-le-zero x.1
     none (release h) x = not-suc-le-zero x
-
--- who knows what it has to whatever was done is ready for any beginning
-pub ready-always : {S : Type 0} (knows : S → Sizes → (ℕ → Body) → List ℕ → ℕ → Grid → List Turn → List ℕ → Type 0) (s : S) →
-    ((z : Sizes) (at : ℕ → Body) (steps : List ℕ) (lines : ℕ) (d : Grid) (ts : List Turn) (ls : List ℕ) → knows s z at steps lines d ts ls) → ReadyForAny knows s
-unfolding ReadyForAny
-ready-always knows s k ns p z text steps ls cs lines f = k z _ steps lines _ [] ls

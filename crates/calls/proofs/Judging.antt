@@ -1,5 +1,5 @@
 -- From what the machine's own row of turns shows to what users read; and how a machine that was loaded sets out.
-use Rattle.std.proofs.Common.{◌≡◌, ℕ, ◌≤◌, List, [], sym, refl, ◌∙◌, subst, inl, not-suc-le-zero, arith}
+use Rattle.std.proofs.Common.{◌≡◌, ℕ, ◌≤◌, List, [], sym, refl, ◌∙◌, subst, not-suc-le-zero, arith}
 use Rattle.lanes.specs.Syntax.{Program, Body, end, put, read_shared, write_shared, read_all, write_all, barrier, when, while}
 use Rattle.lanes.specs.Grid.{Turn, turns, marked, steps, begin}
 use Rattle.lanes.specs.Race.{Races}
@@ -49,10 +49,10 @@ unfolding Races
 no-marks r = not-suc-le-zero r.5
 
 -- before the first turn
-pub sets-out : (ns : List (List ℕ)) (p : Program) (z : Sizes) (text bytes words ls cs ks : List ℕ) (lines : ℕ) → 1 ≤ z.lanes → Loads ns p z text bytes words ls cs ks lines →
-    StandsAt z (left_at p.body) words lines (grid_of z (left_at p.body) ls cs) [] ls cs ks 0
-unfolding turns marked steps NoneWrong highest line_at
-sets-out ns p z text bytes words ls cs ks lines some l = record {
+pub sets-out : (ns : List (List ℕ)) (p : Program) (z : Sizes) (text bytes steps ls cs ks : List ℕ) (lines : ℕ) → 1 ≤ z.lanes → Loads ns p z text bytes steps ls cs ks lines →
+    StandsAt z (left_at p.body) lines (grid_of z (left_at p.body) ls cs) [] ls cs ks 0
+unfolding turns marked steps NoneWrong highest
+sets-out ns p z text bytes steps ls cs ks lines some l = record {
   sofar = record {
     grid = refl;
     kept = l.kept;
@@ -60,9 +60,9 @@ sets-out ns p z text bytes words ls cs ks lines some l = record {
     none_wrong = λ g k. subst (λ d. NoneWrong d) (sym l.begins) (λ g k. begin-right p z.groups z.lanes (cells_read bytes z.field) g k) g k;
   };
   has_steps = refl;
-  runs = l.fresh.runs;
+  lined = l.lined;
   phases = λ g h.
       let q = l.phases g h in
-      let b : barriers (left_at p.body (line_at z ls g 0)) ≤ lines_of p.body = rw (l.fresh.words g 0 0 h (omega arith) some (inl (omega arith)), left-zero p.body) (barriers-few p.body) in
-      omega (arith, l.fresh.lines_are);
+      let b : barriers (left_at p.body (line_at z ls g 0)) ≤ lines_of p.body = rw (l.first_line g 0 h some, left-zero p.body) (barriers-few p.body) in
+      omega (arith, l.lines_are);
 }

@@ -3,4 +3,3 @@ mod Placing
 mod Judging
 mod Planning
 mod Answering
-mod Joining

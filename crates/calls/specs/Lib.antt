@@ -3,4 +3,3 @@ pub mod Tell
 pub mod Judge
 pub mod Plan
 pub mod Answers
-pub mod Lockstep

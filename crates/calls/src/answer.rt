@@ -1,9 +1,9 @@
 // A text and a field's bytes are answered with what is told of them, in print, or with a refusal.
-ghost use Rattle.std.specs.Prelude.{◌≡◌, ◌≤◌, length};
+ghost use Rattle.std.specs.Prelude.{◌≡◌, ℕ, ◌≤◌, length};
+ghost use Rattle.lanes.specs.Grid.{Grid};
 ghost use Rattle.store.specs.Layout.{cells_room};
 ghost use Rattle.store.specs.Lent.{field_of};
-ghost use Rattle.calls.specs.Answers.{Answered, CameBy, Slices};
-ghost use Rattle.calls.specs.Load.{ReadyForAny};
+ghost use Rattle.calls.specs.Answers.{Answered, Slices};
 
 use crate::judge::judge;
 use crate::plan::{Plan, Refused, make_plan};
@@ -15,15 +15,12 @@ use machine::schedule::Scheduler;
 use machine::verdict::Verdict;
 use store::Sizes;
 
-// What is told, the machine's verdict, which names lines of the text too, and how many bytes are printed; how many steps of rows were
-// done, and how many lanes were in their masks.
+// What is told, the machine's verdict, which names lines of the text too, and how many bytes are printed.
 #[derive(Clone, Copy)]
 pub struct Answer {
     pub verdict: Verdict,
     pub told: Told,
     pub len: usize,
-    pub rows: u64,
-    pub lanes: u64,
 }
 
 // The cells of the field, behind those of the groups.
@@ -46,9 +43,8 @@ pub fn answer_by<S: Scheduler>(
     marks: &mut [u64],
     printed: &mut [u8],
 ) -> Result<Answer, Refused>
-    requires { ReadyForAny S.Scheduler.knows s.old }
-    ensures answered { Answered text.now bytes.now (record { steps = steps.entry.now; lanes = lanes.old; cells = cells.old; touches = marks.old; printed = printed.old }) (record { steps = steps.exit.now; lanes = lanes.new; cells = cells.new; touches = marks.new; printed = printed.new }) result }
-    ensures came { CameBy S.Scheduler.ends s.new text.now bytes.now (record { steps = steps.entry.now; lanes = lanes.old; cells = cells.old; touches = marks.old; printed = printed.old }) (record { steps = steps.exit.now; lanes = lanes.new; cells = cells.new; touches = marks.new; printed = printed.new }) result }
+    requires { (n : ℕ) (d : Grid) → S.Scheduler.knows s.old n d }
+    ensures { Answered text.now bytes.now (record { steps = steps.entry.now; lanes = lanes.old; cells = cells.old; touches = marks.old; printed = printed.old }) (record { steps = steps.exit.now; lanes = lanes.new; cells = cells.new; touches = marks.new; printed = printed.new }) result }
 {
     let room = Room {
         steps: steps.len(),
@@ -61,7 +57,7 @@ pub fn answer_by<S: Scheduler>(
         Ok(plan) => plan,
         Err(why) => return Err(why),
     };
-    let ran = judge(
+    let verdict = judge(
         s,
         text,
         bytes,
@@ -72,15 +68,9 @@ pub fn answer_by<S: Scheduler>(
         marks,
         plan.granted,
     );
-    let told = told_by(ran.verdict);
+    let told = told_by(verdict);
     match print_told(printed, told, field_cells(plan.sizes, cells)) {
-        Ok(len) => Ok(Answer {
-            verdict: ran.verdict,
-            told,
-            len,
-            rows: ran.rows,
-            lanes: ran.lanes,
-        }),
+        Ok(len) => Ok(Answer { verdict, told, len }),
         Err(_) => unreachable(),
     }
 }

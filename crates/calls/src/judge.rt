@@ -1,18 +1,18 @@
 // A text that was taken, and a field, brought to a verdict.
 ghost use Rattle.std.specs.Prelude.{◌≡◌, ℕ, ◌+◌, ◌*◌, ◌≤◌, List, length};
 ghost use Rattle.lanes.specs.Syntax.{Program};
-ghost use Rattle.lanes.specs.Grid.{begin};
+ghost use Rattle.lanes.specs.Grid.{Turn, begin};
+ghost use Rattle.lanes.specs.Told.{Shows};
 ghost use Rattle.formats.specs.Field.{cells_read};
-ghost use Rattle.code.specs.Lines.{left_at, lines_of};
 ghost use Rattle.store.specs.Layout.{cells_room};
-ghost use Rattle.store.specs.Lent.{Lent};
-ghost use Rattle.machine.specs.Verdict.{RanSo};
-ghost use Rattle.calls.specs.Load.{For, Starts, ReadyForAny};
+ghost use Rattle.store.specs.Lent.{Lent, field_of};
+ghost use Rattle.machine.specs.Verdict.{told_of};
+ghost use Rattle.calls.specs.Load.{For, Starts};
 
 use crate::load::load;
 use machine::run::run_turns;
 use machine::schedule::Scheduler;
-use machine::verdict::Ran;
+use machine::verdict::Verdict;
 use store::Sizes;
 
 // The slices are long enough, the field's bytes are there, and the text is a program for which the scheduler is ready.
@@ -26,14 +26,13 @@ pub fn judge<S: Scheduler>(
     cells: &mut [u32],
     marks: &mut [u64],
     granted: u64,
-) -> Ran
+) -> Verdict
     requires lent { Lent z lanes.old cells.old }
     requires watch { 6 * cells_room z ≤ length marks.old }
     requires field { 16 + 4 * z.field ≤ length bytes.now }
     requires most { granted ≤ 1099511627776 }
-    requires starts { Starts z text.now steps.old }
-    requires ready { ReadyForAny S.Scheduler.knows s.old }
-    ensures { (ns : List (List ℕ)) (p : Program) → For ns p z text.now steps.old → RanSo S.Scheduler.ends s.new granted steps.new (lines_of p.body) z (left_at p.body) (begin p z.groups z.lanes (cells_read bytes.now z.field)) lanes.new cells.new result }
+    requires starts { Starts S.Scheduler.knows s.old z text.now bytes.now steps.old }
+    ensures { (ns : List (List ℕ)) (p : Program) → For ns p z text.now steps.old → (ts : List Turn) × Shows granted z.lanes (begin p z.groups z.lanes (cells_read bytes.now z.field)) ts (told_of result (field_of z cells.new)) }
 {
     let lines = load(text, bytes, z, steps, lanes, cells, marks);
     run_turns(s, text, steps, lines, z, lanes, cells, marks, granted)

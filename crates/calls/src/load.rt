@@ -6,8 +6,6 @@ ghost use Rattle.calls.specs.Load.{Loads, For};
 
 use code::compile::compile;
 use formats::field::copy_cells;
-use machine::prepare::prepare;
-use machine::tally::count_all;
 use store::{Sizes, start};
 use touches::clear;
 
@@ -29,8 +27,5 @@ pub fn load(
     copy_cells(bytes, &mut cells[from..from + z.field]);
     start(z, lanes, cells);
     clear(marks);
-    let lines = compile(text, steps);
-    prepare(text, steps, lines);
-    count_all(steps, lines, z, lanes);
-    lines
+    compile(text, steps)
 }

@@ -1,7 +1,6 @@
 // What the programs call: nothing is asked of their callers.
 ghost use Rattle.std.specs.Prelude.{◌≡◌};
 ghost use Rattle.calls.specs.Answers.{Answered, Slices};
-ghost use Rattle.calls.specs.Lockstep.{InLockstep};
 ghost use Rattle.calls.specs.Plan.{wanted_as};
 
 use crate::answer::{Answer, answer_by};
@@ -13,7 +12,6 @@ use machine::inturn::InTurn;
 use machine::replay::Scripted;
 use machine::script::Written;
 use reader::texts::read;
-use rows::rows::Rows;
 
 // How long the lent slices have to be for a text and a field's bytes.
 pub fn room_for(text: &[u8], bytes: &[u8]) -> Result<Room, Refused>
@@ -37,7 +35,7 @@ pub fn room_for(text: &[u8], bytes: &[u8]) -> Result<Room, Refused>
     }))
 }
 
-// Rows of lanes in lockstep.
+// One lane after the other, each up to its next barrier.
 pub fn run_text(
     text: &[u8],
     bytes: &[u8],
@@ -47,11 +45,19 @@ pub fn run_text(
     marks: &mut [u64],
     printed: &mut [u8],
 ) -> Result<Answer, Refused>
-    ensures answered { Answered text.now bytes.now (record { steps = steps.entry.now; lanes = lanes.old; cells = cells.old; touches = marks.old; printed = printed.old }) (record { steps = steps.exit.now; lanes = lanes.new; cells = cells.new; touches = marks.new; printed = printed.new }) result }
-    ensures joined { InLockstep text.now bytes.now (record { steps = steps.entry.now; lanes = lanes.old; cells = cells.old; touches = marks.old; printed = printed.old }) (record { steps = steps.exit.now; lanes = lanes.new; cells = cells.new; touches = marks.new; printed = printed.new }) result }
+    ensures { Answered text.now bytes.now (record { steps = steps.entry.now; lanes = lanes.old; cells = cells.old; touches = marks.old; printed = printed.old }) (record { steps = steps.exit.now; lanes = lanes.new; cells = cells.new; touches = marks.new; printed = printed.new }) result }
 {
-    let mut rows = Rows { group: 0, start: 0 };
-    answer_by(&mut rows, text, bytes, steps, lanes, cells, marks, printed)
+    let mut in_turn = InTurn { group: 0, lane: 0 };
+    answer_by(
+        &mut in_turn,
+        text,
+        bytes,
+        steps,
+        lanes,
+        cells,
+        marks,
+        printed,
+    )
 }
 
 // The turns that are written down, and behind them one lane after the other.

@@ -131,7 +131,8 @@ fn word_end(text: &[u8], at: usize) -> usize
 
 // The word that a byte stands in, or that ends there, for a message.
 pub fn word_at(text: &[u8], at: usize) -> &[u8]
-    ensures { IsWord text.now at result.now }
+    ensures short { length result.now ≤ length text.now }
+    ensures word { IsWord text.now at result.now }
 {
     let at = at.min(text.len());
     let from = word_begin(text, at);

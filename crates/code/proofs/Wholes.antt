@@ -17,7 +17,7 @@ use Rattle.code.specs.Words.{step_at}
 use Rattle.code.specs.Code.{Codes, Coded, CodeRight}
 use Rattle.code.specs.Joins.{Nested, JoinsRight, Regions}
 use Rattle.code.specs.Scan.{in_line, Scan}
-use Rattle.code.specs.Make.{entry_at, Lies, no_more, Names, NextLine, Given, LinesMade, Skipped, Compiled, stopping}
+use Rattle.code.specs.Make.{entry_at, Lies, no_more, Names, NextLine, Given, LinesMade, Skipped, Compiled, Joining, stopping}
 use Rattle.code.proofs.Left.{else-most, no_second, when-lines}
 use Rattle.code.proofs.Rights.{code-right}
 use Rattle.code.proofs.Nests.{joins-right}
@@ -236,7 +236,7 @@ unfolding step_at
 last_end words lines = rw (le-ltb lines lines (omega arith))
 
 pub compiled : (ns : List (List ℕ)) (p : Program) (text words after : List ℕ) (room : ℕ) (q r : Place) → Taken ns p text → q.entry ≡ 0 → Given ns text q.at p.body [] q.entry 16 room
-    → LinesMade text words after 16 room q r → Compiled ns p text words after r.entry
+    → LinesMade text words after 16 room q r → Compiled ns p text words after r.entry × Joining after r.entry
 unfolding CodeRight JoinsRight
 compiled ns p text words after room q r t z g made =
     let done = made.done ns p.body [] g in
@@ -245,7 +245,7 @@ compiled ns p text words after room q r t z g made =
     let s : Codes (Named ns) text (length ns) (step_at after r.entry) 0 p.body =
     codes_same (Named ns) text (length ns) (entry_at after) (step_at after r.entry) 0 p.body (λ i lo hi. entry_of after r.entry i (omega arith)) c in
     let last : step_at after r.entry (lines_of p.body) ≡ End = ap (step_at after r.entry) (sym n) ∙ last_end after r.entry in
-    record {
+    (record {
       lines = n;
       few = omega (arith, body-few ns p text t);
       stands = s;
@@ -253,10 +253,11 @@ compiled ns p text words after room q r t z g made =
           subst (λ (l : ℕ). Coded (Named ns) text (length ns) l (left_at p.body) (step_at after r.entry)) (sym n)
           (code-right ns text (step_at after r.entry) p.body s last);
       nested = subst (λ (l : ℕ). Nested (step_at after r.entry) l) (sym n) (joins-right ns text (step_at after r.entry) p.body s);
+      behind = λ k h. made.moved.kept.same k (inr h);
+    }, record {
       regions = subst (λ (l : ℕ). Regions (step_at after r.entry) l) (sym n) (codes-regions ns text (step_at after r.entry) p.body s last t.shallow);
       starts = codes-start (Named ns) text (length ns) (step_at after r.entry) 0 p.body s (ap (step_at after r.entry) (omega arith) ∙ last);
-      behind = λ k h. made.moved.kept.same k (inr h);
-    }
+    })
 
 -- A heading, and what is none.
 module _ (text : List ℕ) (p : Place) (r : Line) (scan : Scan text p.at r) where

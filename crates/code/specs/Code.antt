@@ -85,7 +85,6 @@ pub record Settled (at : ℕ → Body) (code : ℕ → Step) (lines i r : ℕ) :
   pub left : at r ≡ at i
   pub within : r ≤ lines
   pub stays : is_jump (code r) ≡ false
-  pub leads : Settles code i r
 
 module _ (N : ℕ → List ℕ → Type 0) (text : List ℕ) (owns : ℕ) (code : ℕ → Step) where
   -- The step is one with the place in the text where an expression stands, or with two such places.

@@ -180,13 +180,16 @@ pub record Skipped (text : List ℕ) (p r : Place) : Type 0 where
   pub stays : (ns : List (List ℕ)) (b : Body) (z : List ℕ) → Names ns text → Lies ns text p.at b z → Halts z → r ≡ p
 
 -- The text was made into r entries, which stand for the program's body; so they do at each entry what is left there,
--- and what stands in an if or a while stays in it until its join. The first is no jump. Words behind them are as they were.
+-- and what stands in an if or a while stays in it until its join. Words behind them are as they were.
 pub record Compiled (ns : List (List ℕ)) (p : Program) (text words after : List ℕ) (r : ℕ) : Type 0 where
   pub lines : r ≡ lines_of p.body
   pub few : r ≤ lines_in text
   pub stands : Codes (Named ns) text (length ns) (step_at after r) 0 p.body
   pub coded : Coded (Named ns) text (length ns) r (left_at p.body) (step_at after r)
   pub nested : Nested (step_at after r) r
+  pub behind : (k : ℕ) → r * 16 ≤ k → slice_index after k ≡ slice_index words k
+
+-- Of such entries: branches have their joins (Regions), and the first is no jump.
+pub record Joining (after : List ℕ) (r : ℕ) : Type 0 where
   pub regions : Regions (step_at after r) r
   pub starts : is_jump (step_at after r 0) ≡ false
-  pub behind : (k : ℕ) → r * 16 ≤ k → slice_index after k ≡ slice_index words k

@@ -3,7 +3,7 @@ ghost use Rattle.std.specs.Prelude.{◌≡◌, ℕ, ◌+◌, ◌*◌, ◌/◌, �
 ghost use Rattle.lanes.specs.Syntax.{Body, Program};
 ghost use Rattle.grammar.specs.Taken.{Taken, lines_in};
 ghost use Rattle.code.specs.Scan.{Scan};
-ghost use Rattle.code.specs.Make.{After, stopping, plain_step, Given, LinesMade, LineMade, Branches, BranchMade, ElseGiven, ElseMade, Closed, Skipped, Compiled};
+ghost use Rattle.code.specs.Make.{After, stopping, plain_step, Given, LinesMade, LineMade, Branches, BranchMade, ElseGiven, ElseMade, Closed, Skipped, Compiled, Joining};
 
 use super::scan::{Line, next_line, scan_line};
 use super::step::Step;
@@ -237,6 +237,7 @@ fn skip_heading(text: &[u8], p: Place) -> Place
 pub fn compile(text: &[u8], steps: &mut [u32]) -> usize
     ensures few { result ≤ length steps.old / 16 }
     ensures made { (ns : List (List ℕ)) (p : Program) → Taken ns p text.now → lines_in text.now * 16 ≤ length steps.old → Compiled ns p text.now steps.old steps.new result }
+    ensures joining { (ns : List (List ℕ)) (p : Program) → Taken ns p text.now → lines_in text.now * 16 ≤ length steps.old → Joining steps.new result }
 {
     if text.len() >= 0x8000_0000 {
         return 0;

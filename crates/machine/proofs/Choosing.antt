@@ -1,5 +1,5 @@
 -- A choice is done: what came of a row's line, or of a group that goes on.
-use Rattle.std.proofs.Common.{◌≡◌, ℕ, zero, suc, ◌+◌, ◌-◌, ◌<◌, ◌≤◌, true, List, [], ◌∷◌, ◌++◌, sym, refl, ap, ◌∙◌, subst, inl, inr, append-nil, add-zero, arith}
+use Rattle.std.proofs.Common.{◌≡◌, ℕ, zero, suc, ◌+◌, ◌-◌, ◌<◌, ◌≤◌, true, List, [], ◌∷◌, ◌++◌, length, sym, refl, ap, ◌∙◌, subst, inl, inr, append-nil, add-zero, arith}
 use Rattle.std.proofs.lemmas.Bool.{cases_eq}
 use Rattle.lanes.specs.Syntax.{Body}
 use Rattle.lanes.specs.Grid.{Grid, Turn, of, release, can, turn, turns, marked, marks_at, steps}
@@ -14,18 +14,17 @@ use Rattle.store.proofs.Slots.{phase-same}
 use Rattle.machine.specs.declared.schedule.Choice.TheVariants.{Row, GoOn}
 use Rattle.machine.specs.declared.outcome.Outcome.TheVariants.{Fine}
 use Rattle.machine.specs.Sofar.{Sofar}
-use Rattle.machine.specs.Line.{Runs, on, lanes_in, row_turns}
+use Rattle.machine.specs.Line.{Loaded, Runs, on, lanes_in, row_turns}
 use Rattle.machine.specs.Schedule.{RowCan}
-use Rattle.machine.specs.Plans.{LineOutcome}
+use Rattle.machine.specs.Plans.{RowRan}
 use Rattle.machine.specs.Moves.{WentOn}
-use Rattle.machine.specs.Carried.{Carried}
-use Rattle.machine.specs.Tally.{RowCounted}
 use Rattle.machine.specs.Verdict.{barriers, highest, StandsAt, WentTo}
 use Rattle.machine.proofs.Rows.{grid-more, marked_more, steps-more, right-released}
 use Rattle.machine.proofs.Counting.{row-steps}
 use Rattle.machine.proofs.Bounds.{few-barriers, highest-more}
-use Rattle.machine.proofs.Moving.{carried_row, carried-go}
-use Rattle.machine.proofs.Tallying.{phase-counted}
+
+pub runs-from : (ns : List (List ℕ)) (text steps : List ℕ) (lines : ℕ) (z : Sizes) (at : ℕ → Body) (ls : List ℕ) → Loaded ns text steps lines z at → Lined z (suc lines) ls → Runs z at steps lines ls
+runs-from ns text steps lines z at ls k h = record { ns = ns; text = text; owns = length ns; coded = k.coded; lined = h }
 
 some_lanes : (mask i k : ℕ) → i < k → on mask i ≡ true → 1 ≤ lanes_in mask k
 unfolding lanes_in
@@ -35,13 +34,15 @@ some_lanes mask i (suc k) h e = elim (cases_eq i k) [
   | inr q ↦ let r = some_lanes mask i k (omega arith) e in omega arith
 ]
 
-few-at : (z : Sizes) (at : ℕ → Body) (steps : List ℕ) (lines : ℕ) (ls : List ℕ) (h : ℕ) → Runs z at steps lines ls → Sized z → h < z.groups → barriers (at (line_at z ls h 0)) ≤ lines
+few-at : (ns : List (List ℕ)) (text steps : List ℕ) (lines : ℕ) (z : Sizes) (at : ℕ → Body) (ls : List ℕ) (h : ℕ) → Loaded ns text steps lines z at → Sized z → Lined z (suc lines) ls → h < z.groups →
+    barriers (at (line_at z ls h 0)) ≤ lines
 unfolding Lined
-few-at z at steps lines ls h k sized hg =
-    let some = sized.some_lane in let q = k.lined h 0 hg (omega arith) in
-    few-barriers (Named k.ns) k.text k.owns lines at (step_at steps lines) k.coded (line_at z ls h 0) (omega arith)
+few-at ns text steps lines z at ls h k sized lined hg =
+    let some = sized.some_lane in let q = lined h 0 hg (omega arith) in
+    few-barriers (Named ns) text (length ns) lines at (step_at steps lines) k.coded (line_at z ls h 0) (omega arith)
 
-module _ (z : Sizes) (at : ℕ → Body) (words : List ℕ) (lines : ℕ) (d : Grid) (ts : List Turn) (ls cs ks : List ℕ) (done : ℕ) (sized : Sized z) (stands : StandsAt z at words lines d ts ls cs ks done) where
+module _ (ns : List (List ℕ)) (text steps-words : List ℕ) (lines : ℕ) (z : Sizes) (at : ℕ → Body) (d : Grid) (ts : List Turn) (ls cs ks : List ℕ) (done : ℕ)
+    (loaded : Loaded ns text steps-words lines z at) (sized : Sized z) (stands : StandsAt z at lines d ts ls cs ks done) where
   -- the steps of a row that can be done
   row-steps-from : (g start mask : ℕ) → RowCan z at ls cs g start mask → steps z.lanes d (ts ++ row_turns g start mask 32) ≡ done + lanes_in mask 32
   row-steps-from g start mask can-row =
@@ -54,45 +55,38 @@ module _ (z : Sizes) (at : ℕ → Body) (words : List ℕ) (lines : ℕ) (d : G
   unfolding Shows
   shows-long granted g start mask can-row h k = let q = row-steps-from g start mask can-row in omega arith
 
-  module _ (ls' cs' ks' ls'' : List ℕ) (granted g start mask : ℕ) (can-row : RowCan z at ls cs g start mask) (ran : LineOutcome z at words lines ls cs ks ls' cs' ks' g start mask Fine)
-      (cnt : RowCounted z words lines g start mask ls' ls'') where
-    same-phases : (h : ℕ) → phase_of_spec z ls'' h ≡ phase_of_spec z ls h
-    same-phases h = let some = sized.some_lane in phase-counted z g ls' ls'' sized cnt.only h ∙ phase-same z ls ls' h (ran.words_kept h 2 0 (omega arith) (omega arith) (omega arith)) (ran.words_kept h 3 0 (omega arith) (omega arith) (omega arith))
+  module _ (ls' cs' ks' : List ℕ) (granted g start mask : ℕ) (can-row : RowCan z at ls cs g start mask) (ran : RowRan z at (suc lines) ls cs ks ls' cs' ks' g start mask Fine) where
+    same-phases : (h : ℕ) → phase_of_spec z ls' h ≡ phase_of_spec z ls h
+    same-phases h = let some = sized.some_lane in phase-same z ls ls' h (ran.words h 2 0 (omega arith) (omega arith) (omega arith)) (ran.words h 3 0 (omega arith) (omega arith) (omega arith))
 
-    sofar-did : Sofar z at d (ts ++ row_turns g start mask 32) ls' cs' ks'
-    sofar-did = subst (λ (k : ℕ). Sofar z at d (ts ++ row_turns g start mask k) ls' cs' ks') ran.ends (ran.after d ts stands.sofar)
-
-    sofar-now : Sofar z at d (ts ++ row_turns g start mask 32) ls'' cs' ks'
-    sofar-now = let s = sofar-did in record { grid = cnt.only.grid at cs' ∙ s.grid; kept = s.kept; no_race = s.no_race; none_wrong = s.none_wrong }
+    sofar-now : Sofar z at d (ts ++ row_turns g start mask 32) ls' cs' ks'
+    sofar-now = subst (λ (k : ℕ). Sofar z at d (ts ++ row_turns g start mask k) ls' cs' ks') ran.ends (ran.after d ts stands.sofar)
 
     some : 1 ≤ lanes_in mask 32
     some = some_lanes mask can-row.lowest 32 can-row.lowest_few can-row.lowest_on
 
-    carried-now : Carried z at words lines (Row g start mask) ls cs ls'' cs'
-    carried-now = carried_row z at words lines ls cs ks ls' cs' ks' ls'' g start mask sized stands.runs can-row ran d (ts ++ row_turns g start mask 32) sofar-did cnt
-
-    stands-now : StandsAt z at words lines d (ts ++ row_turns g start mask 32) ls'' cs' ks' (done + lanes_in mask 32)
+    stands-now : StandsAt z at lines d (ts ++ row_turns g start mask 32) ls' cs' ks' (done + lanes_in mask 32)
     stands-now = record {
       sofar = sofar-now;
       has_steps = row-steps-from g start mask can-row;
-      runs = carried-now.runs;
+      lined = ran.lined;
       phases = λ h hg.
-          let p = stands.phases h hg in let q = same-phases h in let r = few-at z at words lines ls'' h carried-now.runs sized hg in
+          let p = stands.phases h hg in let q = same-phases h in let r = few-at ns text steps-words lines z at ls' h loaded sized ran.lined hg in
           let m = highest-more done (lanes_in mask 32) lines some in omega arith;
     }
 
-    pub went-row : done ≤ granted → lanes_in mask 32 ≤ granted - done → WentTo z at words lines d ts ls cs ls'' cs' ks' granted done (done + lanes_in mask 32) (Row g start mask)
+    pub went-row : done ≤ granted → lanes_in mask 32 ≤ granted - done → WentTo z at lines d ls cs ls' cs' ks' granted done (done + lanes_in mask 32) (Row g start mask)
     went-row h k = record {
+      us = ts ++ row_turns g start mask 32;
       stands = stands-now;
-      carried = carried-now;
+      grid = subst (λ (i : ℕ). grid_of z at ls' cs' ≡ turns z.lanes (grid_of z at ls cs) (row_turns g start mask i)) ran.ends ran.grid;
       granted_still = omega arith;
-      counted = let s = some in omega arith;
       moved = inl (record { more = let s = some in omega arith; phases = same-phases });
     }
 
-  module _ (ls' : List ℕ) (granted g : ℕ) (hg : g < z.groups) (could : can z.lanes (grid_of z at ls cs) (release g) ≡ true) (went : WentOn z words lines g ls ls') where
-    runs : Runs z at words lines ls
-    runs = stands.runs
+  module _ (ls' : List ℕ) (granted g : ℕ) (hg : g < z.groups) (could : can z.lanes (grid_of z at ls cs) (release g) ≡ true) (went : WentOn z steps-words lines g ls ls') where
+    runs : Runs z at steps-words lines ls
+    runs = runs-from ns text steps-words lines z at ls loaded stands.lined
 
     could-now : can z.lanes (turns z.lanes d ts) (release g) ≡ true
     could-now = subst (λ (e : Grid). can z.lanes e (release g) ≡ true) stands.sofar.grid could
@@ -123,19 +117,20 @@ module _ (z : Sizes) (at : ℕ → Body) (words : List ℕ) (lines : ℕ) (d : G
           let r : barriers (at (line_at z ls' h 0)) ≡ barriers (at (line_at z ls h 0)) = ap (λ (i : ℕ). barriers (at i)) (went.other_lines h 0 (omega arith) ne) in omega arith
     ]
 
-    stands-gone : StandsAt z at words lines d (ts ++ (release g ∷ [])) ls' cs ks done
+    stands-gone : StandsAt z at lines d (ts ++ (release g ∷ [])) ls' cs ks done
     stands-gone = record {
       sofar = sofar-gone;
       has_steps = steps-more z.lanes d ts (release g) could-now ∙ (add-zero (steps z.lanes d ts) ∙ stands.has_steps);
-      runs = went.runs at cs runs could;
+      lined = (went.runs at cs runs could).lined;
       phases = phases-gone;
     }
 
-    pub went-go : done ≤ granted → WentTo z at words lines d ts ls cs ls' cs ks granted done done (GoOn g)
+    pub went-go : done ≤ granted → WentTo z at lines d ls cs ls' cs ks granted done done (GoOn g)
+    unfolding turns
     went-go h = record {
+      us = ts ++ (release g ∷ []);
       stands = stands-gone;
-      carried = carried-go z at words lines ls cs ls' g runs could went;
+      grid = went.grid at cs runs could;
       granted_still = h;
-      counted = omega arith;
       moved = inr (record { as_many = refl; group = g; there = hg; phase = went.phase; phases = went.other_phases });
     }

@@ -1,37 +1,27 @@
 -- A line for a mask, from the entry at which its lanes stand.
-use Rattle.std.proofs.Common.{◌≡◌, ℕ, zero, suc, ◌+◌, ◌*◌, ◌/◌, ◌<◌, ◌≤◌, true, false, ◌⊎◌, List, [], ◌++◌, length, get_or, Some, None, Option, sym, refl, ap, ◌∙◌, subst, inl, inr, append-nil, le_of_eq, arith}
+use Rattle.std.proofs.Common.{◌≡◌, ℕ, zero, suc, ◌+◌, ◌<◌, ◌≤◌, true, false, ◌⊎◌, List, [], ◌++◌, get_or, Some, None, sym, refl, ap, ◌∙◌, subst, inl, inr, append-nil, le_of_eq, arith}
 use Rattle.std.proofs.lemmas.Bool.{cases_Bool, both_ways, and_parts}
 use Rattle.lanes.specs.Syntax.{Body, end}
 use Rattle.lanes.specs.Step.{value, stepping, Lane}
 use Rattle.lanes.specs.Grid.{Grid, Turn, of, can, turns, steps, the_lane}
 use Rattle.grammar.specs.Spelling.{Named}
-use Rattle.code.specs.declared.step.Step.{Step}
 use Rattle.code.specs.Code as code
-use Rattle.code.specs.Code.{Does, Coded, Settled, is_jump}
-use Rattle.code.specs.Settle.{Leads}
+use Rattle.code.specs.Code.{Does, Coded, is_jump}
 use Rattle.code.specs.Words.{step_at}
 use Rattle.store.specs.declared.Sizes.{Sizes}
 use Rattle.store.specs.declared.Todo.{Todo}
 use Rattle.store.specs.declared.Todo.TheVariants as todo
-use Rattle.store.specs.Lent.{line_at, own_of, lane_at, grid_of}
-use Rattle.store.specs.Acts.{NextIs, Ready, Goes, SentTo}
+use Rattle.store.specs.Lent.{own_of, lane_at, grid_of}
+use Rattle.store.specs.Acts.{NextIs, Ready}
 use Rattle.store.proofs.Grids.{the-lane-is}
-use Rattle.values.specs.Ready.{Ready as Held}
 use Rattle.machine.specs.declared.line.Plan.{Plan}
 use Rattle.machine.specs.declared.outcome.Outcome.{Outcome}
 use Rattle.machine.specs.declared.outcome.Outcome.TheVariants.{Fine, Raced, Wrong}
 use Rattle.machine.specs.Sofar.{Sofar}
-use Rattle.machine.specs.Line.{on, row_turns, Loaded, Coding, Masked, LineDone}
-use Rattle.machine.specs.Prepare.{second_at, ReadySteps}
+use Rattle.machine.specs.Line.{on, row_turns, Loaded, Masked, LineDone}
 use Rattle.machine.specs.Masks.{ReadyRow, RowOutcome, Ends}
-use Rattle.machine.specs.Plans.{plan_of_spec, Worked, SecondReady, SecondWorked, RowIn, Led, LineOutcome}
-use Rattle.machine.proofs.Planned.{plan-goes, plan-step, first-ready, second-ready, no-plan, next_is, last_end, Second}
-use Rattle.machine.proofs.Preparing.{entry-there}
-use Rattle.machine.proofs.Leading.{led-next, led-goes, led-sent, plan-sends}
-
--- a step with a plan stands in the words
-pub plan-there : (words : List ℕ) (lines entry owns : ℕ) (s : Step) (o : Option Plan) (p : Plan) → s ≡ step_at words lines entry → o ≡ plan_of_spec owns s → o ≡ Some p → entry < length words / 16
-plan-there words lines entry owns s o p d e q = entry-there words lines entry (plan-step owns (step_at words lines entry) p (ap (plan_of_spec owns) (sym d) ∙ (sym e ∙ q)))
+use Rattle.machine.specs.Plans.{plan_of_spec, Worked, SecondWorked, RowIn, LineOutcome}
+use Rattle.machine.proofs.Planned.{plan-goes, no-plan, next_is, last_end, Second}
 
 -- a mask without a lane
 no-turns : (g start mask n : ℕ) → n ≤ 32 → ((i : ℕ) → i < 32 → on mask i ≡ false) → row_turns g start mask n ≡ []
@@ -39,27 +29,21 @@ unfolding row_turns
 no-turns g start mask zero h none = refl
 no-turns g start mask (suc n) h none = rw (none n (omega arith), no-turns g start mask n (omega arith) none) refl
 
-pub idle : (z : Sizes) (at : ℕ → Body) (words : List ℕ) (lines : ℕ) (ls cs ks : List ℕ) (g start mask : ℕ) → ((i : ℕ) → i < 32 → on mask i ≡ false) →
-    LineOutcome z at words lines ls cs ks ls cs ks g start mask Fine
+pub idle : (z : Sizes) (at : ℕ → Body) (lines : ℕ) (ls cs ks : List ℕ) (g start mask : ℕ) → ((i : ℕ) → i < 32 → on mask i ≡ false) →
+    LineOutcome z at lines ls cs ks ls cs ks g start mask Fine
 unfolding turns steps
-idle z at words lines ls cs ks g start mask none =
+idle z at lines ls cs ks g start mask none =
     let e = no-turns g start mask 32 (omega arith) none in
     record {
       many = 32;
       ends = refl;
       lined = λ h. h;
       rest = λ _ _ _ _ _ _. refl;
-      words_kept = λ _ _ _ _ _ _. refl;
-      sent = λ j h o. absurd (both_ways (on mask j) (none j h) o);
+      words = λ _ _ _ _ _ _. refl;
       grid = rw e refl;
       steps = rw e refl;
       after = λ d ts s. rw (e, append-nil ts) s;
     }
-
-pub few-ends : (g start mask many : ℕ) (r : Outcome) → Ends g start mask many r → (j : ℕ) → j < many → j < 32
-few-ends g start mask many Fine e j h = omega arith
-few-ends g start mask many (Raced x) e j h = let a = e.1 in let b = e.2 in omega arith
-few-ends g start mask many (Wrong x y i) e j h = let a = e.1 in let b = e.2 in omega arith
 
 -- what the lanes can do, and where
 module _ (z : Sizes) (at : ℕ → Body) (words : List ℕ) (lines : ℕ) (ls cs : List ℕ) (g start mask entry : ℕ) (m : Masked z at words lines ls cs g start mask entry) where
@@ -92,13 +76,13 @@ module _ (z : Sizes) (at : ℕ → Body) (words : List ℕ) (lines : ℕ) (ls cs
         (no-plan (Named ns) text at z.owns lines (step_at words lines entry) (at entry) e (subst (λ (n : ℕ). code.Goes n lines (step_at words lines entry)) l.owned (l.coded.goes entry m.within)) m.no_jump (l.coded.does entry m.within))
         (steps_on i h o))
 
-    second-of : (xs ys : List ℕ) (i : ℕ) → i < 32 → start + i < z.lanes → (t : Todo) (y : ℕ) → SecondWorked z ls g start text t y ys →
+    second_of : (xs ys : List ℕ) (i : ℕ) → i < 32 → start + i < z.lanes → (t : Todo) (y : ℕ) → SecondWorked z ls g start text t y ys →
         Second (Named ns) text at z.owns (value (own_of z ls g (start + i)) (start + i) g z.lanes) (get_or xs i 0) (get_or ys i 0) y t
     unfolding Worked
-    second-of xs ys i h hl (todo.Put k j) y w = tt
-    second-of xs ys i h hl (todo.Read f k j) y w = tt
-    second-of xs ys i h hl (todo.Write f j) y w = λ e st. w ns l.names l.distinct (le_of_eq l.owned) e st i h hl
-    second-of xs ys i h hl (todo.Branch a b) y w = tt
+    second_of xs ys i h hl (todo.Put k j) y w = tt
+    second_of xs ys i h hl (todo.Read f k j) y w = tt
+    second_of xs ys i h hl (todo.Write f j) y w = λ e st. w ns l.names l.distinct (le_of_eq l.owned) e st i h hl
+    second_of xs ys i h hl (todo.Branch a b) y w = tt
 
     pub ready-row : (p : Plan) (xs ys : List ℕ) → plan_of_spec z.owns (step_at words lines entry) ≡ Some p → Worked z ls g start text p.first xs →
         SecondWorked z ls g start text p.todo p.second ys → ReadyRow z at ls g start mask p.todo xs ys
@@ -107,44 +91,23 @@ module _ (z : Sizes) (at : ℕ → Body) (words : List ℕ) (lines : ℕ) (ls cs
         let hl = m.there i h o in
         subst (λ (n : ℕ). NextIs at (value (own_of z ls g (start + i)) (start + i) g z.lanes) p.todo (get_or xs i 0) (get_or ys i 0) (at n)) (sym (m.stands i h o))
         (next_is (Named ns) text at z.owns (value (own_of z ls g (start + i)) (start + i) g z.lanes) (get_or xs i 0) (get_or ys i 0) (step_at words lines entry) p (at entry) e (l.coded.does entry m.within)
-        (λ f st. w ns l.names l.distinct (le_of_eq l.owned) f st i h hl) (second-of xs ys i h hl p.todo p.second u))
+        (λ f st. w ns l.names l.distinct (le_of_eq l.owned) f st i h hl) (second_of xs ys i h hl p.todo p.second u))
 
     stops : at lines ≡ end
     stops = last_end (Named ns) text at words lines (at lines) (l.coded.does lines (omega arith))
 
-    coding : Coding at words lines
-    coding = record { ns = ns; text = text; owns = length ns; coded = l.coded }
-
-    -- with the lines where the jumps lead
-    led-row : (t u : Todo) (xs ys : List ℕ) → Led (Settled at (step_at words lines) lines) t u → ReadyRow z at ls g start mask t xs ys → ReadyRow z at ls g start mask u xs ys
-    unfolding ReadyRow Ready
-    led-row t u xs ys led ready i h o = led-next at (step_at words lines) lines _ t u (get_or xs i 0) (get_or ys i 0) _ led (ready i h o)
-
-    lands : (p : Plan) (t : Todo) (j r : ℕ) → j < 32 → on mask j ≡ true → plan_of_spec z.owns (step_at words lines entry) ≡ Some p → Led (Settled at (step_at words lines) lines) p.todo t → SentTo t r →
-        Leads (step_at words lines) (line_at z ls g (start + j)) r
-    lands p t j r h o e led to =
-        let q = led-sent at (step_at words lines) lines p.todo t r led to in
-        rw (m.stands j h o) (q.0, plan-sends z.owns (step_at words lines entry) p q.0 e q.1, q.2)
-
-    pub line-did : (p : Plan) (t : Todo) (ks ls' cs' ks' xs ys : List ℕ) (r : Outcome) → plan_of_spec z.owns (step_at words lines entry) ≡ Some p →
-        ((to : ℕ) → Held text p.first words (entry * 16 + 5) to → Worked z ls g start text p.first xs) →
-        ((to : ℕ) → SecondReady text words (second_at words entry) to p.todo p.second → SecondWorked z ls g start text p.todo p.second ys) →
-        ((at' : ℕ → Body) → Coding at' words lines → Goes (suc lines) p.todo → Led (Settled at' (step_at words lines) lines) p.todo t) → RowOutcome z ls cs ks ls' cs' ks' g start mask lines t xs ys r →
-        LineOutcome z at words lines ls cs ks ls' cs' ks' g start mask r
-    unfolding ReadySteps
-    line-did p t ks ls' cs' ks' xs ys r e w u lead o =
-        let first = first-ready text words z.owns entry (step_at words lines entry) p e (l.ready entry) in
-        let second = second-ready text words z.owns entry (step_at words lines entry) p e (l.ready entry) in
+    pub line-did : (p : Plan) (ks ls' cs' ks' xs ys : List ℕ) (r : Outcome) → plan_of_spec z.owns (step_at words lines entry) ≡ Some p → Worked z ls g start text p.first xs →
+        SecondWorked z ls g start text p.todo p.second ys → RowOutcome z ls cs ks ls' cs' ks' g start mask lines p.todo xs ys r →
+        LineOutcome z at (suc lines) ls cs ks ls' cs' ks' g start mask r
+    line-did p ks ls' cs' ks' xs ys r e w u o =
+        let ready = ready-row p xs ys e w u in
         let goes = plan-goes z.owns lines (step_at words lines entry) p e (subst (λ (n : ℕ). code.Goes n lines (step_at words lines entry)) l.owned (l.coded.goes entry m.within)) in
-        let led = lead at coding goes in
-        let ready = led-row p.todo t xs ys led (ready-row p xs ys e (w first.0 first.1) (u (entry * 16 + 15) second)) in
         record {
           many = o.many;
           ends = o.ends;
-          lined = λ h. o.did.lined (suc lines) (omega arith) (led-goes at (step_at words lines) lines p.todo t led) h;
+          lined = λ h. o.did.lined (suc lines) (omega arith) goes h;
           rest = o.did.rest;
-          words_kept = o.did.words;
-          sent = λ j h on-j. elim (o.did.sent j h on-j) [ inl to ↦ inl (lands p t j _ (few-ends g start mask o.many r o.ends j h) on-j e led to) | inr bad ↦ inr bad ];
+          words = o.did.words;
           grid = o.did.grid at stops ready;
           steps = o.did.steps at stops ready;
           after = λ d ts s. o.after at d ts stops ready s;
@@ -156,7 +119,7 @@ all-fine g start mask many Fine e f = e
 all-fine g start mask many (Raced x) e f = absurd (let q : ◌≡◌ {A = ℕ} 0 1 = cc in omega arith)
 all-fine g start mask many (Wrong h l i) e f = absurd (let q : ◌≡◌ {A = ℕ} 0 1 = cc in omega arith)
 
-pub line-done : (z : Sizes) (at : ℕ → Body) (words : List ℕ) (lines : ℕ) (ls cs ks ls' cs' ks' : List ℕ) (g start mask : ℕ) (r : Outcome) (d : Grid) (ts : List Turn) →
-    LineOutcome z at words lines ls cs ks ls' cs' ks' g start mask r → Sofar z at d ts ls cs ks → LineDone z at d ts g start mask ls' cs' ks' r
-line-done z at words lines ls cs ks ls' cs' ks' g start mask r d ts o s =
+pub line-done : (z : Sizes) (at : ℕ → Body) (lines : ℕ) (ls cs ks ls' cs' ks' : List ℕ) (g start mask : ℕ) (r : Outcome) (d : Grid) (ts : List Turn) →
+    LineOutcome z at lines ls cs ks ls' cs' ks' g start mask r → Sofar z at d ts ls cs ks → LineDone z at d ts g start mask ls' cs' ks' r
+line-done z at lines ls cs ks ls' cs' ks' g start mask r d ts o s =
     record { us = ts ++ row_turns g start mask o.many; after = o.after d ts s; all = λ f. ap (λ (n : ℕ). ts ++ row_turns g start mask n) (all-fine g start mask o.many r o.ends f) }

@@ -1,14 +1,13 @@
 -- A line for a mask is the steps of its lanes.
-use Rattle.std.proofs.Common.{◌≡◌, ℕ, ◌+◌, ◌<◌, true, false, ◌⊎◌, List, [], ◌∷◌, ◌++◌, get_or, sym, refl, ap, ◌∙◌, subst, inl, inr, append_assoc, append-nil, not-suc-le-zero, add-one, arith}
+use Rattle.std.proofs.Common.{◌≡◌, ℕ, ◌+◌, ◌<◌, true, false, List, [], ◌∷◌, ◌++◌, get_or, sym, refl, ap, ◌∙◌, subst, append_assoc, append-nil, add-one, arith}
 use Rattle.std.proofs.lemmas.List.{length_push}
-use Rattle.std.proofs.lemmas.Bool.{both_ways, cases_eq}
 use Rattle.lanes.specs.Syntax.{Body, end}
 use Rattle.lanes.specs.Grid.{Grid, Turn, of, can, turn, turns, steps}
 use Rattle.store.specs.declared.Sizes.{Sizes}
 use Rattle.store.specs.declared.Todo.{Todo}
 use Rattle.store.specs.Layout.{Sized, slots}
 use Rattle.store.specs.Lent.{slot_of, line_at, own_of, grid_of, phase_of_spec}
-use Rattle.store.specs.Acts.{Ready, SentTo}
+use Rattle.store.specs.Acts.{Ready}
 use Rattle.store.proofs.Slots.{own_same, phase-same}
 use Rattle.machine.specs.declared.outcome.Outcome.{Outcome}
 use Rattle.machine.specs.declared.outcome.Outcome.TheVariants.{Fine, Raced, Wrong}
@@ -39,7 +38,7 @@ module _ (z : Sizes) (ls cs ks : List ℕ) (g start mask stop : ℕ) (todo : Tod
   unfolding row_turns turns steps
   row-none =
       record {
-        did = record { lined = λ _ _ _ h. h; rest = λ _ _ _ _ _ _. refl; words = λ _ _ _ _ _ _. refl; sent = λ j h. absurd (not-suc-le-zero h); grid = λ _ _ _. refl; steps = λ _ _ _. refl };
+        did = record { lined = λ _ _ _ h. h; rest = λ _ _ _ _ _ _. refl; words = λ _ _ _ _ _ _. refl; grid = λ _ _ _. refl; steps = λ _ _ _. refl };
         sofar = λ at d ts _ _ s. rw append-nil s;
       }
 
@@ -51,16 +50,11 @@ module _ (z : Sizes) (ls cs ks : List ℕ) (g start mask stop : ℕ) (todo : Tod
             lined = far.did.lined;
             rest = λ g' s l hs hl ne. far.did.rest g' s l hs hl (λ a j x h o. ne a j x (omega arith) o);
             words = far.did.words;
-            sent = λ j h o. by j h o (cases_eq j i);
             grid = λ at ends ready. rw (row_turns-off g start mask i e) (far.did.grid at ends ready);
             steps = λ at ends ready. rw (row_turns-off g start mask i e) (far.did.steps at ends ready);
           };
           sofar = λ at d ts ends ready s. rw (row_turns-off g start mask i e) (far.sofar at d ts ends ready s);
         }
-      where
-        by : (j : ℕ) → j < i + 1 → on mask j ≡ true → (j ≡ i) ⊎ (j ≡ i → ⊥) → SentTo todo (line_at z ls' g (start + j)) ⊎ (slot_of z ls' g 1 (start + j) ≡ 1)
-        by j h o (inl q) = absurd (both_ways (on mask i) e (subst (λ (k : ℕ). on mask k ≡ true) q o))
-        by j h o (inr q) = far.did.sent j (omega arith) o
 
     module _ (ls'' cs'' ks'' : List ℕ) (r : Outcome) (e : on mask i ≡ true) (hl : start + i < z.lanes) (lane : LaneDid z ls' cs' ks' ls'' cs'' ks'' g (start + i) stop todo (get_or xs i 0) (get_or ys i 0) r) where
       slot-still : (s : ℕ) → s < slots z → slot_of z ls' g s (start + i) ≡ slot_of z ls g s (start + i)
@@ -72,15 +66,6 @@ module _ (z : Sizes) (ls cs ks : List ℕ) (g start mask stop : ℕ) (todo : Tod
           ready-same z at ls ls' g (start + i) todo (get_or xs i 0) (get_or ys i 0) (own_same z ls ls' g (start + i) (λ s hs _. slot-still s hs))
           (line_same z ls ls' g (start + i) (slot-still 0 (omega arith))) (ready i hi e)
 
-      sent-on : (j : ℕ) → j < i + 1 → on mask j ≡ true → SentTo todo (line_at z ls'' g (start + j)) ⊎ (slot_of z ls'' g 1 (start + j) ≡ 1)
-      sent-on j h o = by (cases_eq j i)
-        where
-          by : (j ≡ i) ⊎ (j ≡ i → ⊥) → SentTo todo (line_at z ls'' g (start + j)) ⊎ (slot_of z ls'' g 1 (start + j) ≡ 1)
-          by (inl q) = rw q lane.sent
-          by (inr q) =
-              rw (line_same z ls' ls'' g (start + j) (lane.only.others g 0 (start + j) (omega arith) (omega arith) (λ _ x. q (omega arith))), lane.only.others g 1 (start + j) (omega arith) (omega arith) (λ _ x. q (omega arith)))
-              (far.did.sent j (omega arith) o)
-
       could-now : (at : ℕ → Body) → at stop ≡ end → ReadyRow z at ls g start mask todo xs ys → can z.lanes (turns z.lanes (grid_of z at ls cs) (row_turns g start mask i)) (of g (start + i)) ≡ true
       could-now at ends ready = subst (λ (d : Grid). can z.lanes d (of g (start + i)) ≡ true) (far.did.grid at ends ready) (lane.could at ends (still-ready at ready))
 
@@ -90,7 +75,6 @@ module _ (z : Sizes) (ls cs ks : List ℕ) (g start mask stop : ℕ) (todo : Tod
             lined = λ lines hs goes h. lane.lined lines hs goes (far.did.lined lines hs goes h);
             rest = λ g' s l hs hl' ne. lane.only.others g' s l hs hl' (λ a x. ne a i x (omega arith) e) ∙ far.did.rest g' s l hs hl' (λ a j x h o. ne a j x (omega arith) o);
             words = λ g' s l h2 hs hl'. lane.only.words g' s l h2 hs hl' ∙ far.did.words g' s l h2 hs hl';
-            sent = sent-on;
             grid = λ at ends ready.
                 rw (row_turns-on g start mask i e)
                 (lane.grid at ends (still-ready at ready) ∙ ap (λ (d : Grid). turn z.lanes d (of g (start + i))) (far.did.grid at ends ready)

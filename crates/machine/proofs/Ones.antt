@@ -1,20 +1,18 @@
 -- A mask of one lane.
-use Rattle.std.proofs.Common.{◌≡◌, ℕ, zero, suc, ◌/◌, ◌%◌, ◌^◌, ◌<◌, true, eqb, List, [], ◌∷◌, ◌++◌, Some, sym, refl, ap, ◌∙◌, subst, inl, inr, add-zero, arith}
+use Rattle.std.proofs.Common.{◌≡◌, ℕ, zero, suc, ◌/◌, ◌%◌, ◌^◌, ◌<◌, true, eqb, List, [], ◌∷◌, Some, refl, ap, inl, inr, add-zero, arith}
 use native.Mathlib.Nat.{div-eq_of_lt}
 use Rattle.std.proofs.lemmas.Nat.{pow_below}
 use Rattle.std.proofs.lemmas.Bool.{both_ways, cases_lt}
 use Rattle.machine.proofs.Stances.{can-outside}
 use Rattle.lanes.specs.Syntax.{Body}
-use Rattle.lanes.specs.Grid.{Grid, Turn, of, release, can, turns}
-use Rattle.lanes.proofs.Turns.{turns-append}
+use Rattle.lanes.specs.Grid.{Grid, of, release, can, turns}
 use Rattle.store.specs.declared.Sizes.{Sizes}
 use Rattle.store.specs.Lent.{grid_of}
 use Rattle.machine.specs.Line.{on, row_turns}
 use Rattle.machine.specs.declared.schedule.Choice.{Choice}
 use Rattle.machine.specs.declared.schedule.Choice.TheVariants.{Row, GoOn}
 use Rattle.machine.specs.declared.inturn.InTurn.{InTurn}
-use Rattle.machine.specs.Schedule.{RowCan, Passed, Picked, come_to}
-use Rattle.machine.specs.Carried.{Says}
+use Rattle.machine.specs.Schedule.{RowCan, Passed, Picked, Says, come_to}
 use Rattle.machine.proofs.Passing.{passed-step, passed-go}
 
 pub one_on : (i : ℕ) → on 1 i ≡ true → i ≡ 0
@@ -47,24 +45,13 @@ pub go-passed : (n : ℕ) (d : Grid) (g : ℕ) → Passed n d g 0 → Passed n (
 unfolding turns
 go-passed n d g p = passed-go n d g p
 
--- the grid after more turns
-pub turns-on : (n : ℕ) (d x : Grid) (ts us : List Turn) → x ≡ turns n d ts → turns n x us ≡ turns n d (ts ++ us)
-turns-on n d x ts us e = ap (λ (y : Grid). turns n y us) e ∙ sym (turns-append n d ts us)
-
 -- what is found is named
-abbrev pub InTurnKnows : InTurn → Sizes → (ℕ → Body) → List ℕ → ℕ → Grid → List Turn → List ℕ → Type 0
-InTurnKnows s z at steps lines d ts ls = Passed z.lanes (turns z.lanes d ts) s.group s.lane
+abbrev pub InTurnKnows : InTurn → ℕ → Grid → Type 0
+InTurnKnows s n d = Passed n d s.group s.lane
 
-module _ (z : Sizes) (at : ℕ → Body) (steps : List ℕ) (lines : ℕ) (d : Grid) (ts : List Turn) (ls cs : List ℕ) (e : grid_of z at ls cs ≡ turns z.lanes d ts) where
-  pub picked-says : (c : Choice) → Picked z at ls cs (Some c) → Says InTurnKnows InTurnKnows (come_to c) z at steps lines d ts ls cs (Some c)
-  picked-says (Row g l mask) q = (
-    one-can z at ls cs g l mask q.0 q.1 q.2 q.3,
-    λ ls' cs' k. subst (λ (x : Grid). Passed z.lanes x g l) (turns-on z.lanes d (grid_of z at ls cs) ts (row_turns g l mask 32) e) (one-passed z.lanes (grid_of z at ls cs) g l mask q.0 q.4),
-  )
-  picked-says (GoOn g) q = (
-    q.1,
-    λ ls' cs' k. subst (λ (x : Grid). Passed z.lanes x g 0) (turns-on z.lanes d (grid_of z at ls cs) ts (release g ∷ []) e) (go-passed z.lanes (grid_of z at ls cs) g q.2),
-  )
+pub picked-says : (z : Sizes) (at : ℕ → Body) (ls cs : List ℕ) (c : Choice) → Picked z at ls cs (Some c) → Says InTurnKnows (come_to c) z at ls cs (Some c)
+picked-says z at ls cs (Row g l mask) q = (one-can z at ls cs g l mask q.0 q.1 q.2 q.3, one-passed z.lanes (grid_of z at ls cs) g l mask q.0 q.4)
+picked-says z at ls cs (GoOn g) q = (q.1, go-passed z.lanes (grid_of z at ls cs) g q.2)
 
 -- a lane that can step is there
 pub step_in : (z : Sizes) (at : ℕ → Body) (ls cs : List ℕ) (g l : ℕ) → can z.lanes (grid_of z at ls cs) (of g l) ≡ true → (g < z.groups) × (l < z.lanes)

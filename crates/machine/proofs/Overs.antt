@@ -1,5 +1,5 @@
 -- What is told where nothing can be done, and that the machine comes there.
-use Rattle.std.proofs.Common.{◌≡◌, ℕ, zero, suc, ◌+◌, ◌-◌, ◌*◌, ◌<◌, ◌≤◌, true, false, ◌⊎◌, List, [], ◌∷◌, length, get_or, sym, refl, ap, ◌∙◌, subst, inl, inr, add-mul, arith}
+use Rattle.std.proofs.Common.{◌≡◌, ℕ, zero, suc, ◌+◌, ◌*◌, ◌<◌, ◌≤◌, true, false, ◌⊎◌, List, [], ◌∷◌, length, get_or, sym, refl, ap, ◌∙◌, subst, inl, inr, add-mul, arith}
 use Rattle.std.proofs.lemmas.Nat.{mul-le}
 use Rattle.std.proofs.lemmas.Bool.{cases_eq}
 use Rattle.std.proofs.lemmas.Bool.Decides.{nat_tests}
@@ -34,7 +34,7 @@ barred-lane : (z : Sizes) (at : ℕ → Body) (ls : List ℕ) (g l : ℕ) → at
 unfolding lane_at
 barred-lane z at ls g l w = w
 
-module _ (z : Sizes) (at : ℕ → Body) (words : List ℕ) (lines : ℕ) (d : Grid) (ts : List Turn) (ls cs ks : List ℕ) (done granted : ℕ) (st : StandsAt z at words lines d ts ls cs ks done) (few : done ≤ granted)
+module _ (z : Sizes) (at : ℕ → Body) (lines : ℕ) (d : Grid) (ts : List Turn) (ls cs ks : List ℕ) (done granted : ℕ) (st : StandsAt z at lines d ts ls cs ks done) (few : done ≤ granted)
     (still : Still z.lanes (grid_of z at ls cs)) where
   ended-now : Over z at ls Field → all_ended (grid_of z at ls cs).groups_of ≡ true
   unfolding the_group
@@ -105,7 +105,3 @@ falls z lines granted done k ls ls' h low (inr m) =
     let e = sum_one (phase_of_spec z ls) (phase_of_spec z ls') z.groups m.group m.there m.phase m.phases in
     let b = sum-le (phase_of_spec z ls') z.groups (highest granted lines) (λ g hg. let p = low g hg in let u = highest-up k granted lines h in omega arith) in
     let q = m.as_many in omega arith
-
-pub left-same : (z : Sizes) (lines granted done : ℕ) (ls ls' : List ℕ) → ((g : ℕ) → phase_of_spec z ls' g ≡ phase_of_spec z ls g) → left_over z lines granted done ls' ≡ left_over z lines granted done ls
-unfolding left_over
-left-same z lines granted done ls ls' e = ap (λ (n : ℕ). (granted - done) + (z.groups * highest granted lines - n)) (sum_same (phase_of_spec z ls) (phase_of_spec z ls') z.groups e)

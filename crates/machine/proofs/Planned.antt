@@ -1,5 +1,5 @@
 -- What the step at an entry has the lanes do is what is left there, with the numbers worked out.
-use Rattle.std.proofs.Common.{◌≡◌, ℕ, suc, ◌+◌, ◌*◌, Bool, true, false, cond, ltb, List, Some, None, Option, sym, refl, ap, ◌∙◌, subst, inl, inr, arith}
+use Rattle.std.proofs.Common.{◌≡◌, ℕ, suc, Bool, true, false, cond, ltb, List, Some, None, Option, sym, refl, subst, inl, inr, arith}
 use Rattle.std.proofs.lemmas.Bool.{ltb-true, lt-ltb, both_ways, le-ltb}
 use Rattle.lanes.specs.Syntax.{Body, Expr, end, at_barrier, ended}
 use Rattle.lanes.specs.Step.{stepping}
@@ -14,18 +14,16 @@ use Rattle.store.specs.declared.Todo.{Todo}
 use Rattle.store.specs.declared.Todo.TheVariants as todo
 use Rattle.store.specs.Acts.{NextIs, TodoFits, Goes}
 use Rattle.machine.specs.declared.line.Plan.{Plan}
-use Rattle.values.specs.Ready.{Ready as Held}
-use Rattle.machine.specs.Prepare.{second_at, ReadyStep}
-use Rattle.machine.specs.Plans.{plan_of_spec, SecondReady}
+use Rattle.machine.specs.Plans.{plan_of_spec}
 
-pub some_is : (a b : Plan) → ◌≡◌ {A = Option Plan} (Some a) (Some b) → a ≡ b
+some_is : (a b : Plan) → ◌≡◌ {A = Option Plan} (Some a) (Some b) → a ≡ b
 some_is a b e = cc
 
-pub none-some : (a : Plan) → ◌≡◌ {A = Option Plan} None (Some a) → ⊥
+none-some : (a : Plan) → ◌≡◌ {A = Option Plan} None (Some a) → ⊥
 none-some a e = let z : ◌≡◌ {A = ℕ} 0 1 = cc in omega arith
 
 -- a plan that is made under a test
-pub tested : (t : Bool) (a p : Plan) → cond t (Some a) None ≡ Some p → (t ≡ true) × (a ≡ p)
+tested : (t : Bool) (a p : Plan) → cond t (Some a) None ≡ Some p → (t ≡ true) × (a ≡ p)
 tested true a p e = (refl, some_is a p e)
 tested false a p e = absurd (none-some p e)
 
@@ -50,29 +48,6 @@ plan-goes owns lines (Branch x y n j f) p e g = subst (λ (a : Plan). Goes (suc 
 plan-goes owns lines (Jump i) p e g = absurd (none-some p e)
 plan-goes owns lines (Barrier i) p e g = absurd (none-some p e)
 plan-goes owns lines End p e g = absurd (none-some p e)
-
--- the words hold the expressions of a plan's step, or a 0
-pub first-ready : (text words : List ℕ) (owns i : ℕ) (s : Step) (p : Plan) → plan_of_spec owns s ≡ Some p → ReadyStep text words i s → (to : ℕ) × Held text p.first words (i * 16 + 5) to
-first-ready text words owns i (Put k x n) p e r = let q = tested _ _ p e in (i * 16 + 15, subst (λ (a : Plan). Held text a.first words (i * 16 + 5) (i * 16 + 15)) q.1 r)
-first-ready text words owns i (Read f k x n) p e r = let q = tested _ _ p e in (i * 16 + 15, subst (λ (a : Plan). Held text a.first words (i * 16 + 5) (i * 16 + 15)) q.1 r)
-first-ready text words owns i (Write f x y n) p e r = (second_at words i, subst (λ (a : Plan). Held text a.first words (i * 16 + 5) (second_at words i)) (some_is _ p e) r.2)
-first-ready text words owns i (Branch x y n j f) p e r = (i * 16 + 15, subst (λ (a : Plan). Held text a.first words (i * 16 + 5) (i * 16 + 15)) (some_is _ p e) r)
-first-ready text words owns i (Jump n) p e r = absurd (none-some p e)
-first-ready text words owns i (Barrier n) p e r = absurd (none-some p e)
-first-ready text words owns i End p e r = absurd (none-some p e)
-
-pub second-ready : (text words : List ℕ) (owns i : ℕ) (s : Step) (p : Plan) → plan_of_spec owns s ≡ Some p → ReadyStep text words i s → SecondReady text words (second_at words i) (i * 16 + 15) p.todo p.second
-second-ready text words owns i (Put k x n) p e r = let q = tested _ _ p e in subst (λ (a : Plan). SecondReady text words (second_at words i) (i * 16 + 15) a.todo a.second) q.1 tt
-second-ready text words owns i (Read f k x n) p e r = let q = tested _ _ p e in subst (λ (a : Plan). SecondReady text words (second_at words i) (i * 16 + 15) a.todo a.second) q.1 tt
-second-ready text words owns i (Write f x y n) p e r = subst (λ (a : Plan). SecondReady text words (second_at words i) (i * 16 + 15) a.todo a.second) (some_is _ p e) r.3
-second-ready text words owns i (Branch x y n j f) p e r = subst (λ (a : Plan). SecondReady text words (second_at words i) (i * 16 + 15) a.todo a.second) (some_is _ p e) tt
-second-ready text words owns i (Jump n) p e r = absurd (none-some p e)
-second-ready text words owns i (Barrier n) p e r = absurd (none-some p e)
-second-ready text words owns i End p e r = absurd (none-some p e)
-
--- a plan's step is not the end
-pub plan-step : (owns : ℕ) (s : Step) (p : Plan) → plan_of_spec owns s ≡ Some p → s ≡ End → ⊥
-plan-step owns s p e q = none-some p (ap (plan_of_spec owns) (sym q) ∙ e)
 
 -- no plan: a lane that stands there can't step
 pub no-plan : (N : ℕ → List ℕ → Type 0) (text : List ℕ) (at : ℕ → Body) (owns lines : ℕ) (s : Step) (b : Body) → plan_of_spec owns s ≡ None → code.Goes owns lines s → (is_jump s ≡ true → ⊥) →

@@ -1,5 +1,5 @@
 -- What the step where a lane stands says of what it can do.
-use Rattle.std.proofs.Common.{◌≡◌, ℕ, zero, suc, ◌<◌, ◌≤◌, Bool, true, false, ◌&&◌, ◌⊎◌, List, [], ◌∷◌, length, get_or, refl, inl, inr, arith}
+use Rattle.std.proofs.Common.{◌≡◌, ℕ, zero, suc, ◌<◌, ◌≤◌, Bool, true, false, ◌&&◌, ◌⊎◌, List, [], ◌∷◌, length, get_or, refl, subst, inl, inr, arith}
 use Rattle.std.proofs.lemmas.Bool.{lt-ltb, both_ways}
 use Rattle.std.proofs.lemmas.Bool.Decides.{nat_tests}
 use Rattle.lanes.specs.Syntax.{Body, at_barrier, ended}
@@ -7,7 +7,7 @@ use Rattle.lanes.specs.Step.{Lane, stepping}
 use Rattle.lanes.specs.Grid.{of, release, can, the_group, no_lane, all_lanes}
 use Rattle.code.specs.declared.step.Step.{Step}
 use Rattle.code.specs.declared.step.Step.TheVariants.{Put, Read, Write, Branch, Jump, Barrier, End}
-use Rattle.code.specs.Code.{Does, is_jump}
+use Rattle.code.specs.Code.{Does, Coded, Settled, is_jump}
 use Rattle.store.specs.declared.Sizes.{Sizes}
 use Rattle.store.specs.Lent.{grid_of, group_at, lane_at, line_at}
 use Rattle.store.proofs.Upto.{upto-at, upto-length}
@@ -15,7 +15,7 @@ use Rattle.store.proofs.Grids.{the-group-is, the-lane-is, groups-long}
 use Rattle.machine.specs.Choices.{StanceIs, stance_of_spec}
 
 module _ (N : ℕ → List ℕ → Type 0) (text : List ℕ) (at : ℕ → Body) where
-  pub does-stance : (s : Step) (b : Body) → is_jump s ≡ false → Does N text at s b → StanceIs b (stance_of_spec s)
+  does-stance : (s : Step) (b : Body) → is_jump s ≡ false → Does N text at s b → StanceIs b (stance_of_spec s)
   unfolding at_barrier ended
   does-stance (Put k x i) b j (e, st, q) = rw q (refl, refl)
   does-stance (Read true k x i) b j (e, st, q) = rw q (refl, refl)
@@ -27,6 +27,9 @@ module _ (N : ℕ → List ℕ → Type 0) (text : List ℕ) (at : ℕ → Body)
   does-stance (Jump i) b j d = absurd (both_ways true j refl)
   does-stance (Barrier i) b j d = rw d (refl, refl)
   does-stance End b j d = rw d (refl, refl)
+
+  pub settled-stance : (owns lines i r : ℕ) (code : ℕ → Step) → Coded N text owns lines at code → Settled at code lines i r → StanceIs (at i) (stance_of_spec (code r))
+  settled-stance owns lines i r code k s = subst (λ (b : Body). StanceIs b (stance_of_spec (code r))) s.left (does-stance (code r) (at r) s.stays (k.does r s.within))
 
 and-false : (b : Bool) → (b && false) ≡ false
 and-false true = refl

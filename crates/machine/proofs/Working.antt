@@ -1,16 +1,13 @@
 -- The numbers that a line works with, for each lane of a row.
-use Rattle.std.proofs.Common.{◌≡◌, ℕ, ◌+◌, ◌<◌, ◌≤◌, Bool, List, ◌++◌, length, sym, ◌∙◌, subst, arith}
+use Rattle.std.proofs.Common.{◌≡◌, ℕ, ◌+◌, ◌<◌, ◌≤◌, List, ◌++◌, length, ◌∙◌, arith}
 use lib.ListN.{get_or-append}
 use Rattle.store.specs.declared.Sizes.{Sizes}
-use Rattle.store.specs.declared.Todo.{Todo}
-use Rattle.store.specs.declared.Todo.TheVariants as todo
 use Rattle.store.specs.Layout.{Sized, room, place_of}
 use Rattle.store.specs.Lent.{own_of}
 use Rattle.store.proofs.Slots.{own_at, own_range}
 use Rattle.values.specs.declared.row.Row.{Row}
-use Rattle.values.specs.Rows.{RowFits, Values}
-use Rattle.values.specs.Ready.{Ready, Worth}
-use Rattle.machine.specs.Plans.{Worked, SecondReady, SecondWorked}
+use Rattle.values.specs.Rows.{RowFits, Values, Evaluated}
+use Rattle.machine.specs.Plans.{Worked}
 
 -- where the row lies
 abbrev pub row_at : Sizes → ℕ → ℕ → Row
@@ -25,15 +22,9 @@ module _ (z : Sizes) (k : Sized z) (ls : List ℕ) (g start width : ℕ) (hg : g
         within = λ j h. let p = own_range z g j start width hg h hs within in omega arith;
       }
 
-pub worked : (z : Sizes) (ls : List ℕ) (g start width : ℕ) (text : List ℕ) (x : ℕ) (out rest : List ℕ) → length out ≡ width → ((i : ℕ) → i < 32 → start + i < z.lanes → i < width) →
-    Worth text x ls (row_at z g start) out → Worked z ls g start text x (out ++ rest)
+pub worked : (z : Sizes) (ls : List ℕ) (g start width : ℕ) (text : List ℕ) (x j : ℕ) (out rest : List ℕ) → length out ≡ width → ((i : ℕ) → i < 32 → start + i < z.lanes → i < width) →
+    Evaluated text x ls (row_at z g start) out j → Worked z ls g start text x (out ++ rest)
 unfolding Worked Values
-worked z ls g start width text x out rest long wide worth ns names distinct few e stands i hi hl =
+worked z ls g start width text x j out rest long wide ev ns names distinct few e stands i hi hl =
     let p : i < length out = let q = wide i hi hl in omega arith in
-    get_or-append out rest 0 i p ∙ worth ns names distinct few e stands i p (own_of z ls g (start + i)) (λ k h. own_at z ls g start i k h)
-
--- the second numbers of a write
-pub second-worked : (z : Sizes) (ls : List ℕ) (g start : ℕ) (text words : List ℕ) (from : ℕ) (t : Todo) (y : ℕ) (out : List ℕ) (f : Bool) (n : ℕ) → t ≡ todo.Write f n →
-    ((to : ℕ) → Ready text y words from to → Worked z ls g start text y out) → (to : ℕ) → SecondReady text words from to t y → SecondWorked z ls g start text t y out
-second-worked z ls g start text words from t y out f n e w to r =
-    subst (λ (s : Todo). SecondWorked z ls g start text s y out) (sym e) (w to (subst (λ (s : Todo). SecondReady text words from to s y) e r))
+    get_or-append out rest 0 i p ∙ ev.each ns names distinct few e stands i p (own_of z ls g (start + i)) (λ k h. own_at z ls g start i k h)

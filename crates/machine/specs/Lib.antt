@@ -1,14 +1,9 @@
 pub mod Sofar
-pub mod Prepare
 pub mod Line
 pub mod Choices
 pub mod Masks
-pub mod Spans
-pub mod Together
 pub mod Schedule
-pub mod Carried
 pub mod Moves
 pub mod Plans
 pub mod Script
-pub mod Tally
 pub mod Verdict

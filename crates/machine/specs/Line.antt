@@ -1,9 +1,7 @@
 -- A program as it lies in the lent slices, and a line that the lanes of a mask do.
-use Rattle.std.specs.Prelude.{◌≡◌, ℕ, zero, suc, ◌+◌, ◌*◌, ◌<◌, ◌≤◌, true, false, cond, List, [], ◌∷◌, ◌++◌, length}
+use Rattle.std.specs.Prelude.{◌≡◌, ℕ, zero, suc, ◌+◌, ◌*◌, ◌/◌, ◌%◌, ◌^◌, ◌<◌, ◌≤◌, Bool, true, cond, List, [], ◌∷◌, ◌++◌, length, ◌==◌}
 use Rattle.lanes.specs.Syntax.{Body}
 use Rattle.lanes.specs.Grid.{Grid, Turn, of, can}
-pub use Rattle.masks.specs.Masks.{on}
-unfoldable pub use Rattle.masks.specs.Masks.{lanes_in}
 use Rattle.grammar.specs.Spelling.{Named}
 use Rattle.grammar.specs.Names.{NamesIn, Distinct}
 use Rattle.code.specs.Words.{step_at}
@@ -11,20 +9,16 @@ use Rattle.code.specs.Code.{Coded, is_jump}
 use Rattle.store.specs.declared.Sizes.{Sizes}
 use Rattle.store.specs.Layout.{cells_room}
 use Rattle.store.specs.Lent.{Lent, Lined, line_at, grid_of}
-use Rattle.store.specs.Counts.{Counted}
 use Rattle.machine.specs.declared.outcome.Outcome.{Outcome}
 use Rattle.machine.specs.declared.outcome.Outcome.TheVariants.{Fine}
 use Rattle.machine.specs.Sofar.{After}
-use Rattle.machine.specs.Prepare.{ReadySteps}
 
--- The words of steps stand for the text: `at` is what is left at each of the entries and behind the last; own numbers are named ns; and
--- free words of the steps hold their expressions, where they do.
+-- The words of steps stand for the text: `at` is what is left at each of the entries and behind the last; own numbers are named ns.
 pub record Loaded (ns : List (List ℕ)) (text steps : List ℕ) (lines : ℕ) (z : Sizes) (at : ℕ → Body) : Type 0 where
   pub names : NamesIn ns text
   pub distinct : Distinct ns
   pub owned : length ns ≡ z.owns
   pub coded : Coded (Named ns) text (length ns) lines at (step_at steps lines)
-  pub ready : ReadySteps text steps lines
 
 -- The lent slices are long enough, and every lane stands at an entry or behind the last.
 pub record Ready (z : Sizes) (lines : ℕ) (ls cs ks : List ℕ) : Type 0 where
@@ -32,29 +26,24 @@ pub record Ready (z : Sizes) (lines : ℕ) (ls cs ks : List ℕ) : Type 0 where
   pub touches_fit : 6 * cells_room z ≤ length ks
   pub lined : Lined z (suc lines) ls
 
--- The words of steps do at each entry what is left there.
-pub record Coding (at : ℕ → Body) (steps : List ℕ) (lines : ℕ) : Type 0 where
-  pub ns : List (List ℕ)
-  pub text : List ℕ
-  pub owns : ℕ
-  pub coded : Coded (Named ns) text owns lines at (step_at steps lines)
-
--- No lane stands at a jump.
-unfoldable pub Straight : Sizes → List ℕ → ℕ → List ℕ → Type 0
-Straight z steps lines ls = (g l : ℕ) → g < z.groups → l < z.lanes → is_jump (step_at steps lines (line_at z ls g l)) ≡ false
-
--- The words of steps do at each entry what is left there; every lane stands at an entry or behind the last, and at no jump; and each group
--- has its lanes counted that wait, and those that have ended.
+-- The words of steps do at each entry what is left there, and every lane stands at an entry or behind the last.
 pub record Runs (z : Sizes) (at : ℕ → Body) (steps : List ℕ) (lines : ℕ) (ls : List ℕ) : Type 0 where
   pub ns : List (List ℕ)
   pub text : List ℕ
   pub owns : ℕ
   pub coded : Coded (Named ns) text owns lines at (step_at steps lines)
   pub lined : Lined z (suc lines) ls
-  pub straight : Straight z steps lines ls
-  pub counted : (g : ℕ) → g < z.groups → Counted z at ls g
 
--- The turns of the lanes in a mask among the first i of a row, bit i of the mask for lane `first` + i, lowest first.
+-- Bit i of a mask is for lane `first` + i.
+abbrev pub on : ℕ → ℕ → Bool
+on mask i = mask / 2 ^ i % 2 == 1
+
+-- How many of the first i lanes are in the mask.
+unfoldable pub lanes_in : ℕ → ℕ → ℕ
+lanes_in mask zero = 0
+lanes_in mask (suc i) = lanes_in mask i + cond (on mask i) 1 0
+
+-- The turns of those lanes, lowest first.
 unfoldable pub row_turns : ℕ → ℕ → ℕ → ℕ → List Turn
 row_turns g first mask zero = []
 row_turns g first mask (suc i) = row_turns g first mask i ++ cond (on mask i) (of g (first + i) ∷ []) []

@@ -1,12 +1,12 @@
 -- The lanes of a row that are in a mask do one line, one after the other, lowest first.
-use Rattle.std.specs.Prelude.{◌≡◌, ℕ, suc, ◌+◌, ◌<◌, ◌≤◌, true, ◌⊎◌, List, [], ◌∷◌, ◌++◌, length, ◌≢◌, slice_index}
+use Rattle.std.specs.Prelude.{◌≡◌, ℕ, suc, ◌+◌, ◌<◌, ◌≤◌, true, List, [], ◌∷◌, ◌++◌, length, ◌≢◌, slice_index}
 use Rattle.lanes.specs.Syntax.{Body, end}
 use Rattle.lanes.specs.Grid.{Grid, Turn, of, can, turn, turns, steps}
 use Rattle.store.specs.declared.Sizes.{Sizes}
 use Rattle.store.specs.declared.Todo.{Todo}
 use Rattle.store.specs.Layout.{slots}
-use Rattle.store.specs.Lent.{slot_of, line_at, grid_of, Lined, Only}
-use Rattle.store.specs.Acts.{Ready, Goes, SentTo}
+use Rattle.store.specs.Lent.{slot_of, grid_of, Lined, Only}
+use Rattle.store.specs.Acts.{Ready, Goes}
 use Rattle.machine.specs.declared.outcome.Outcome.{Outcome}
 use Rattle.machine.specs.declared.outcome.Outcome.TheVariants.{Fine, Raced, Wrong}
 use Rattle.machine.specs.Sofar.{Sofar, After, Names}
@@ -17,7 +17,6 @@ use Rattle.machine.specs.Line.{on, row_turns}
 pub record LaneDid (z : Sizes) (ls cs ks ls' cs' ks' : List ℕ) (g l stop : ℕ) (todo : Todo) (c v : ℕ) (r : Outcome) : Type 0 where
   pub lined : (lines : ℕ) → stop < lines → Goes lines todo → Lined z lines ls → Lined z lines ls'
   pub only : Only z g l ls ls'
-  pub sent : SentTo todo (line_at z ls' g l) ⊎ (slot_of z ls' g 1 l ≡ 1)
   pub names : Names g l r
   pub could : (at : ℕ → Body) → at stop ≡ end → Ready z at ls g l todo c v → can z.lanes (grid_of z at ls cs) (of g l) ≡ true
   pub grid : (at : ℕ → Body) → at stop ≡ end → Ready z at ls g l todo c v → grid_of z at ls' cs' ≡ turn z.lanes (grid_of z at ls cs) (of g l)
@@ -28,14 +27,13 @@ pub record LaneDid (z : Sizes) (ls cs ks ls' cs' ks' : List ℕ) (g l stop : ℕ
 unfoldable pub ReadyRow : Sizes → (ℕ → Body) → List ℕ → ℕ → ℕ → ℕ → Todo → List ℕ → List ℕ → Type 0
 ReadyRow z at ls g start mask todo xs ys = (i : ℕ) → i < 32 → on mask i ≡ true → Ready z at ls g (start + i) todo (slice_index xs i) (slice_index ys i)
 
--- The lanes in the mask among the first i did their line: nothing has changed but what is their own; each stands at a line where that goes
--- on, or is marked as wrong; and their turns, each of which could be done, were done in that order.
+-- The lanes in the mask among the first i did their line: nothing has changed but what is their own, and their turns, each of which
+-- could be done, were done in that order.
 pub record RowDid (z : Sizes) (ls cs ls' cs' : List ℕ) (g start mask stop : ℕ) (todo : Todo) (xs ys : List ℕ) (i : ℕ) : Type 0 where
   pub lined : (lines : ℕ) → stop < lines → Goes lines todo → Lined z lines ls → Lined z lines ls'
   pub rest : (g' s l : ℕ) → s < slots z → l < z.lanes → (g' ≡ g → (j : ℕ) → l ≡ start + j → j < i → on mask j ≢ true) →
       slot_of z ls' g' s l ≡ slot_of z ls g' s l
   pub words : (g' s l : ℕ) → 2 ≤ s → s < 128 → l < z.lanes → slot_of z ls' g' s l ≡ slot_of z ls g' s l
-  pub sent : (j : ℕ) → j < i → on mask j ≡ true → SentTo todo (line_at z ls' g (start + j)) ⊎ (slot_of z ls' g 1 (start + j) ≡ 1)
   pub grid : (at : ℕ → Body) → at stop ≡ end → ReadyRow z at ls g start mask todo xs ys →
       grid_of z at ls' cs' ≡ turns z.lanes (grid_of z at ls cs) (row_turns g start mask i)
   pub steps : (at : ℕ → Body) → at stop ≡ end → ReadyRow z at ls g start mask todo xs ys →

@@ -1,7 +1,7 @@
 -- What a scheduler names, and that it can be done.
 use Rattle.std.specs.Prelude.{◌≡◌, ℕ, ◌+◌, ◌<◌, true, false, ◌⊎◌, List, [], ◌∷◌, Some, None, Option}
 use Rattle.lanes.specs.Syntax.{Body}
-use Rattle.lanes.specs.Grid.{Grid, Turn, of, release, can}
+use Rattle.lanes.specs.Grid.{Grid, Turn, of, release, can, turns}
 use Rattle.lanes.specs.Promise.{Still}
 use Rattle.store.specs.declared.Sizes.{Sizes}
 use Rattle.store.specs.Lent.{line_at, grid_of}
@@ -30,6 +30,12 @@ pub record RowCan (z : Sizes) (at : ℕ → Body) (ls cs : List ℕ) (g start ma
 abbrev pub CanDo : Sizes → (ℕ → Body) → List ℕ → List ℕ → Choice → Type 0
 CanDo z at ls cs (Row g start mask) = RowCan z at ls cs g start mask
 CanDo z at ls cs (GoOn g) = can z.lanes (grid_of z at ls cs) (release g) ≡ true
+
+-- A scheduler's answer: nothing, and then no turn can be done; or what can be done, and after it the scheduler, which is s then, still
+-- knows what it has to know of the grid.
+abbrev pub Says : {S : Type 0} → (S → ℕ → Grid → Type 0) → S → Sizes → (ℕ → Body) → List ℕ → List ℕ → Option Choice → Type 0
+Says knows s z at ls cs None = Still z.lanes (grid_of z at ls cs)
+Says knows s z at ls cs (Some c) = CanDo z at ls cs c × knows s z.lanes (turns z.lanes (grid_of z at ls cs) (turns_of c))
 
 -- The turn comes before lane l of group g, if groups come one after the other, and in a group lane after lane, and then that it goes on.
 abbrev pub Before : Turn → ℕ → ℕ → Type 0

@@ -8,14 +8,13 @@ ghost use Rattle.machine.specs.Line.{Loaded};
 ghost use Rattle.machine.specs.Schedule.{CanDo};
 ghost use Rattle.machine.specs.Verdict.{StandsAt, Moved, MayGo};
 
+use super::count::lanes_of;
 use super::exec::Active;
 use super::outcome::Outcome;
 use super::release::release;
 use super::row::do_row;
 use super::schedule::Choice;
-use super::tally::add_row;
 use super::verdict::{Verdict, Went};
-use masks::count;
 use store::Sizes;
 
 // Before a row's step: if it would be more steps than were granted, it is too long.
@@ -36,7 +35,7 @@ pub fn do_choice(
     requires few { lines < 4294967290 }
     requires within { done ≤ granted }
     requires goes { MayGo z steps.now lines lanes.old choice }
-    ensures { (ns : List (List ℕ)) (at : ℕ → Body) (d : Grid) (ts : List Turn) → Loaded ns text.now steps.now lines z at → StandsAt z at steps.now lines d ts lanes.old cells.old marks.old done → CanDo z at lanes.old cells.old choice → Moved z at steps.now lines d ts lanes.old cells.old lanes.new cells.new marks.new granted done choice result }
+    ensures { (ns : List (List ℕ)) (at : ℕ → Body) (d : Grid) (ts : List Turn) → Loaded ns text.now steps.now lines z at → StandsAt z at lines d ts lanes.old cells.old marks.old done → CanDo z at lanes.old cells.old choice → Moved z at lines d lanes.old cells.old lanes.new cells.new marks.new granted done choice result }
 {
     match choice {
         Choice::GoOn { group } => {
@@ -44,16 +43,21 @@ pub fn do_choice(
             Went::On(done)
         }
         Choice::Row { group, start, mask } => {
-            let many = count(mask);
+            let many = lanes_of(mask);
             if granted - done < many {
                 return Went::Told(Verdict::TooLong);
             }
-            let row = Active { group, start, mask };
-            match do_row(text, steps, lines, z, lanes, cells, marks, row) {
-                Outcome::Fine => {
-                    add_row(steps, lines, z, lanes, row);
-                    Went::On(done + many)
-                }
+            match do_row(
+                text,
+                steps,
+                lines,
+                z,
+                lanes,
+                cells,
+                marks,
+                Active { group, start, mask },
+            ) {
+                Outcome::Fine => Went::On(done + many),
                 Outcome::Raced(race) => Went::Told(Verdict::Raced(race)),
                 Outcome::Wrong { group, lane, line } => Went::Told(Verdict::Wrong {
                     group,

@@ -1,16 +1,14 @@
 // One line for the lanes of a row that are in a mask, with the numbers that were worked out for each.
 ghost use Rattle.std.specs.Prelude.{◌≡◌, ℕ, ◌+◌, ◌*◌, ◌<◌, ◌≤◌, Bool, true, length};
 ghost use Rattle.store.specs.Layout.{cells_room};
-ghost use Rattle.store.specs.Lent.{Lent};
+ghost use Rattle.store.specs.Lent.{Lent, phase_of_spec};
 ghost use Rattle.store.specs.Acts.{TodoFits};
 ghost use Rattle.machine.specs.Line.{on};
-ghost use Rattle.machine.specs.Masks.{RowOutcome};
+ghost use Rattle.machine.specs.Masks.{LaneDid, RowOutcome};
 
-use super::lane::{Part, Work};
+use super::note::note;
 use super::outcome::Outcome;
-use super::part::do_part;
-use masks::{Span, span_at};
-use store::{Sizes, phase_of};
+use store::{Sizes, Todo, perform, phase_of};
 
 // Lanes of one row of a group: bit i of the mask is lane `start + i`.
 #[derive(Clone, Copy)]
@@ -18,6 +16,46 @@ pub struct Active {
     pub group: usize,
     pub start: usize,
     pub mask: u32,
+}
+
+// What they do. A lane that goes wrong then stands at `stop`; `line` is the line of the text, by which a race is explained.
+#[derive(Clone, Copy)]
+pub struct Work {
+    pub todo: Todo,
+    pub stop: u32,
+    pub line: u32,
+}
+
+// Lane l of group g, which is in that phase, does its step, and its touch is looked at.
+pub fn do_lane(
+    z: Sizes,
+    lanes: &mut [u32],
+    cells: &mut [u32],
+    marks: &mut [u64],
+    g: usize,
+    l: usize,
+    phase: u64,
+    work: Work,
+    c: u32,
+    v: u32,
+) -> Outcome
+    requires lent { Lent z lanes.old cells.old }
+    requires watch { 6 * cells_room z ≤ length marks.old }
+    requires group { g < z.groups }
+    requires lane { l < z.lanes }
+    requires phase { phase ≡ phase_of_spec z lanes.old g }
+    requires there { TodoFits z work.todo }
+    ensures { LaneDid z lanes.old cells.old marks.old lanes.new cells.new marks.new g l work.stop work.todo c v result }
+{
+    let deed = perform(z, lanes, cells, g, l, work.stop, work.todo, c, v);
+    note(z, marks, g, l, phase, work.line, deed)
+}
+
+pub fn is_on(mask: u32, i: usize) -> bool
+    requires { i < 32 }
+    ensures { result ≡ on mask i }
+{
+    (mask >> i) % 2 == 1
 }
 
 // The lanes in the mask do their line, lowest first, until one goes wrong or races.
@@ -42,25 +80,19 @@ pub fn do_masked(
     ensures { RowOutcome z lanes.old cells.old marks.old lanes.new cells.new marks.new row.group row.start row.mask work.stop work.todo xs.now ys.now result }
 {
     let phase = phase_of(z, lanes, row.group);
-    let mut i = 0;
-    while i < 32 {
-        let Span { from, to } = span_at(row.mask, i);
-        i = to;
-        if from < to {
-            let part = Part {
-                group: row.group,
-                first: row.start + from,
-                phase,
-            };
-            match do_part(
+    for i in 0..32usize {
+        if is_on(row.mask, i) {
+            match do_lane(
                 z,
                 lanes,
                 cells,
                 marks,
-                part,
+                row.group,
+                row.start + i,
+                phase,
                 work,
-                &xs[from..to],
-                &ys[from..to],
+                xs[i],
+                ys[i],
             ) {
                 Outcome::Fine => {}
                 stopped => return stopped,

@@ -1,7 +1,7 @@
 // One lane after the other, each up to its next barrier; then its group goes on; then the next group.
 ghost use Rattle.std.specs.Prelude.{◌≡◌, ℕ, suc, ◌+◌, ◌<◌, ◌≤◌, true, false, List, length};
 ghost use Rattle.lanes.specs.Syntax.{Body};
-ghost use Rattle.lanes.specs.Grid.{of, can, turns};
+ghost use Rattle.lanes.specs.Grid.{of, can};
 ghost use Rattle.store.specs.Layout.{Sized, room};
 ghost use Rattle.store.specs.Lent.{grid_of};
 ghost use Rattle.machine.specs.Line.{Runs};
@@ -83,11 +83,9 @@ fn came_to(choice: Choice) -> InTurn
 }
 
 impl Scheduler for InTurn {
-    ghost knows = { λ s z at steps lines d ts ls. Passed z.lanes (turns z.lanes d ts) s.group s.lane };
+    ghost knows = { λ s n d. Passed n d s.group s.lane };
 
-    ghost ends = { λ s z at steps lines d ts ls. Passed z.lanes (turns z.lanes d ts) s.group s.lane };
-
-    fn next(&mut self, steps: &[u32], lines: usize, z: Sizes, lanes: &mut [u32]) -> Option<Choice> {
+    fn next(&mut self, steps: &[u32], lines: usize, z: Sizes, lanes: &[u32]) -> Option<Choice> {
         let Some(choice) = find_from(steps, lines, z, lanes, self.group, self.lane) else {
             return None;
         };

@@ -1,23 +1,18 @@
 // The machine: its schedulers name turns, the executor does them, touches are looked at, and what is told is right.
 #![tactic(auto)]
 
-pub mod ahead;
 pub mod choose;
+pub mod count;
 pub mod exec;
 pub mod inturn;
-pub mod lane;
 pub mod line;
 pub mod look;
 pub mod note;
 pub mod outcome;
-pub mod part;
-pub mod prepare;
 pub mod release;
 pub mod replay;
 pub mod row;
 pub mod run;
 pub mod schedule;
 pub mod script;
-pub mod tally;
-pub mod together;
 pub mod verdict;

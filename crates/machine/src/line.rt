@@ -5,18 +5,15 @@ ghost use Rattle.lanes.specs.Syntax.{Body};
 ghost use Rattle.lanes.specs.Grid.{Grid, Turn};
 ghost use Rattle.store.specs.Layout.{Sized, room, cells_room};
 ghost use Rattle.store.specs.Lent.{Lent};
-ghost use Rattle.values.specs.Ready.{Ready};
 ghost use Rattle.machine.specs.Sofar.{Sofar};
 ghost use Rattle.machine.specs.Line.{Loaded, Masked, LineDone};
-ghost use Rattle.machine.specs.Plans.{plan_of_spec, Worked, SecondReady, SecondWorked, RowIn, LineOutcome};
+ghost use Rattle.machine.specs.Plans.{plan_of_spec, Worked, SecondWorked, RowIn, LineOutcome};
 
-use super::ahead::settle_todo;
-use super::exec::{Active, do_masked};
-use super::lane::Work;
+use super::exec::{Active, Work, do_masked};
 use super::outcome::Outcome;
 use code::{Step, decode, text_line_of};
 use store::{Sizes, Todo, own_base};
-use values::ready::eval_at;
+use values::eval::eval_row;
 use values::row::Row;
 
 // What the lanes do, and the bytes of the text where the expressions stand.
@@ -88,22 +85,13 @@ fn plan_of(owns: usize, step: Step) -> Option<Plan>
     }
 }
 
-// The value of the expression at a byte of the text, for each lane of the row. Words from a place on may hold it.
-fn values_of(
-    text: &[u8],
-    at: u32,
-    steps: &[u32],
-    from: usize,
-    z: Sizes,
-    lanes: &[u32],
-    row: Active,
-    out: &mut [u32],
-)
+// The value of the expression at a byte of the text, for each lane of the row.
+fn values_of(text: &[u8], at: u32, z: Sizes, lanes: &[u32], row: Active, out: &mut [u32])
     requires sized { Sized z }
     requires fit { room z ≤ length lanes.now }
     requires inside { RowIn z row.group row.start row.mask }
     requires long { length out.old ≡ 32 }
-    ensures { (to : ℕ) → Ready text.now at steps.now from to → Worked z lanes.now row.group row.start text.now at out.new }
+    ensures { Worked z lanes.now row.group row.start text.now at out.new }
 {
     let width = (z.lanes - row.start).min(32);
     let place = Row {
@@ -114,36 +102,19 @@ fn values_of(
         stride: z.lanes,
         owns: z.owns,
     };
-    eval_at(
-        text,
-        at as usize,
-        steps,
-        from,
-        lanes,
-        place,
-        &mut out[0..width],
-    );
+    eval_row(text, at as usize, lanes, place, &mut out[0..width]);
 }
 
 // The second numbers, which only a write has.
-fn seconds_of(
-    text: &[u8],
-    plan: Plan,
-    steps: &[u32],
-    from: usize,
-    z: Sizes,
-    lanes: &[u32],
-    row: Active,
-    out: &mut [u32],
-)
+fn seconds_of(text: &[u8], plan: Plan, z: Sizes, lanes: &[u32], row: Active, out: &mut [u32])
     requires sized { Sized z }
     requires fit { room z ≤ length lanes.now }
     requires inside { RowIn z row.group row.start row.mask }
     requires long { length out.old ≡ 32 }
-    ensures { (to : ℕ) → SecondReady text.now steps.now from to plan.todo plan.second → SecondWorked z lanes.now row.group row.start text.now plan.todo plan.second out.new }
+    ensures { SecondWorked z lanes.now row.group row.start text.now plan.todo plan.second out.new }
 {
     if let Todo::Write { field: _, next: _ } = plan.todo {
-        values_of(text, plan.second, steps, from, z, lanes, row, out);
+        values_of(text, plan.second, z, lanes, row, out);
     }
 }
 
@@ -176,7 +147,7 @@ pub fn do_line(
     requires lent { Lent z lanes.old cells.old }
     requires watch { 6 * cells_room z ≤ length marks.old }
     requires few { lines < 4294967296 }
-    ensures did { (ns : List (List ℕ)) (at : ℕ → Body) → Loaded ns text.now steps.now lines z at → Masked z at steps.now lines lanes.old cells.old row.group row.start row.mask entry → LineOutcome z at steps.now lines lanes.old cells.old marks.old lanes.new cells.new marks.new row.group row.start row.mask result }
+    ensures did { (ns : List (List ℕ)) (at : ℕ → Body) → Loaded ns text.now steps.now lines z at → Masked z at steps.now lines lanes.old cells.old row.group row.start row.mask entry → LineOutcome z at (suc lines) lanes.old cells.old marks.old lanes.new cells.new marks.new row.group row.start row.mask result }
     ensures done { (ns : List (List ℕ)) (at : ℕ → Body) (d : Grid) (ts : List Turn) → Loaded ns text.now steps.now lines z at → Masked z at steps.now lines lanes.old cells.old row.group row.start row.mask entry → Sofar z at d ts lanes.old cells.old marks.old → LineDone z at d ts row.group row.start row.mask lanes.new cells.new marks.new result }
 {
     let Some(plan) = plan_of(z.owns, decode(steps, lines, entry)) else {
@@ -187,12 +158,10 @@ pub fn do_line(
     }
     let mut xs = [0; 32];
     let mut ys = [0; 32];
-    let at = entry * 16;
-    values_of(text, plan.first, steps, at + 5, z, lanes, row, &mut xs);
-    let second = at + steps[at + 4] as usize;
-    seconds_of(text, plan, steps, second, z, lanes, row, &mut ys);
+    values_of(text, plan.first, z, lanes, row, &mut xs);
+    seconds_of(text, plan, z, lanes, row, &mut ys);
     let work = Work {
-        todo: settle_todo(steps, lines, plan.todo),
+        todo: plan.todo,
         stop: lines as u32,
         line: text_line_of(steps, entry),
     };

@@ -1,17 +1,17 @@
 // What can be done next.
-ghost use Rattle.std.specs.Prelude.{◌≡◌, ℕ, suc, ◌+◌, ◌<◌, ◌≤◌, true, false, List, length};
-ghost use Rattle.lanes.specs.Syntax.{Body};
+ghost use Rattle.std.specs.Prelude.{◌≡◌, ℕ, suc, ◌+◌, ◌<◌, ◌≤◌, true, List, length};
+ghost use Rattle.lanes.specs.Syntax.{Body, at_barrier};
 ghost use Rattle.lanes.specs.Grid.{of, release, can};
 ghost use Rattle.grammar.specs.Spelling.{Named};
 ghost use Rattle.code.specs.Words.{step_at};
-ghost use Rattle.code.specs.Code.{Coded, is_jump};
+ghost use Rattle.code.specs.Code.{Coded};
 ghost use Rattle.store.specs.Layout.{Sized, room};
 ghost use Rattle.store.specs.Lent.{line_at, grid_of};
 ghost use Rattle.machine.specs.Line.{Runs};
 ghost use Rattle.machine.specs.Choices.{StanceIs, stance_of_spec};
 
-use code::{Step, decode};
-use store::{Sizes, line_of, waiting_of};
+use code::{Step, decode, settle};
+use store::{Sizes, line_of};
 
 #[derive(Clone, Copy)]
 pub enum Stance {
@@ -30,11 +30,12 @@ fn stance_by(step: Step) -> Stance
     }
 }
 
-// What a lane that stands at this entry can do, if it is no jump.
+// What a lane that stands at this entry can do. At an else or an end it is what it can do where that goes.
 pub fn stance_at(steps: &[u32], lines: usize, entry: usize) -> Stance
-    ensures { (ns : List (List ℕ)) (text : List ℕ) (owns : ℕ) (at : ℕ → Body) → entry ≤ lines → is_jump (step_at steps.now lines entry) ≡ false → Coded (Named ns) text owns lines at (step_at steps.now lines) → StanceIs (at entry) result }
+    ensures { (ns : List (List ℕ)) (text : List ℕ) (owns : ℕ) (at : ℕ → Body) → entry ≤ lines → Coded (Named ns) text owns lines at (step_at steps.now lines) → StanceIs (at entry) result }
 {
-    stance_by(decode(steps, lines, entry))
+    let here = settle(steps, lines, entry);
+    stance_by(decode(steps, lines, here))
 }
 
 // What lane l of group g can do.
@@ -64,6 +65,21 @@ pub fn can_step(steps: &[u32], lines: usize, z: Sizes, lanes: &[u32], g: usize, 
     }
 }
 
+// Lane l of group g waits at a barrier.
+fn waits(steps: &[u32], lines: usize, z: Sizes, lanes: &[u32], g: usize, l: usize) -> bool
+    requires sized { Sized z }
+    requires fit { room z ≤ length lanes.now }
+    requires group { g < z.groups }
+    requires lane { l < z.lanes }
+    ensures { (at : ℕ → Body) → Runs z at steps.now lines lanes.now → result ≡ at_barrier (at (line_at z lanes.now g l)) }
+{
+    match stance_of(steps, lines, z, lanes, g, l) {
+        Stance::Waits => true,
+        Stance::Steps => false,
+        Stance::Ended => false,
+    }
+}
+
 // All lanes of group g wait: it can go on.
 pub fn can_go_on(steps: &[u32], lines: usize, z: Sizes, lanes: &[u32], g: usize) -> bool
     requires sized { Sized z }
@@ -73,5 +89,10 @@ pub fn can_go_on(steps: &[u32], lines: usize, z: Sizes, lanes: &[u32], g: usize)
     if g >= z.groups {
         return false;
     }
-    waiting_of(z, lanes, g) as usize == z.lanes
+    for l in 0..z.lanes {
+        if !waits(steps, lines, z, lanes, g, l) {
+            return false;
+        }
+    }
+    true
 }

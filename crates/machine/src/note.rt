@@ -9,7 +9,7 @@ use store::{Deed, Sizes};
 use touches::{Found, Who, touch};
 
 // The touch of the lower group, then of the lower lane, is told first.
-pub fn paired(place: usize, cell: u32, a: Found, b: Found) -> Race
+fn paired(place: usize, cell: u32, a: Found, b: Found) -> Race
     ensures { result ≡ paired_of place cell a b }
 {
     if a.who.group < b.who.group || (a.who.group == b.who.group && a.who.lane < b.who.lane) {
@@ -29,7 +29,7 @@ pub fn paired(place: usize, cell: u32, a: Found, b: Found) -> Race
     }
 }
 
-pub fn who_of(group: usize, lane: usize, phase: u64, line: u32) -> Who
+fn who_of(group: usize, lane: usize, phase: u64, line: u32) -> Who
     requires { (group < 1024) × (lane < 1024) }
     ensures { IsWho result group lane phase line }
 {

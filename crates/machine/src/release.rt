@@ -7,7 +7,6 @@ ghost use Rattle.store.specs.Lent.{Lined, phase_of_spec, grid_of};
 ghost use Rattle.machine.specs.Line.{Runs};
 ghost use Rattle.machine.specs.Moves.{LaneSettled, GroupSettled, WentOn};
 
-use super::tally::count_group;
 use code::settle;
 use store::{Sizes, go_on, line_of, stand};
 
@@ -40,7 +39,7 @@ fn settle_group(steps: &[u32], lines: usize, z: Sizes, lanes: &mut [u32], g: usi
     }
 }
 
-// A group that can go on goes on: its lanes stand behind their barriers, where the jumps from there lead.
+// A group that can go on goes on.
 pub fn release(steps: &[u32], lines: usize, z: Sizes, lanes: &mut [u32], g: usize)
     requires sized { Sized z }
     requires fit { room z ≤ length lanes.old }
@@ -50,7 +49,6 @@ pub fn release(steps: &[u32], lines: usize, z: Sizes, lanes: &mut [u32], g: usiz
     requires runs { (at : ℕ → Body) × Runs z at steps.now lines lanes.old }
     ensures { WentOn z steps.now lines g lanes.old lanes.new }
 {
-    go_on(z, lanes, g);
     settle_group(steps, lines, z, lanes, g);
-    count_group(steps, lines, z, lanes, g);
+    go_on(z, lanes, g);
 }

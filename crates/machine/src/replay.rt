@@ -1,7 +1,6 @@
 // The turns that are written down, and behind them one lane after the other. A written turn that can't be done does nothing.
 ghost use Rattle.std.specs.Prelude.{◌≡◌, ℕ, ◌≤◌, List, length, IfSome};
 ghost use Rattle.lanes.specs.Syntax.{Body};
-ghost use Rattle.lanes.specs.Grid.{turns};
 ghost use Rattle.store.specs.Layout.{Sized, room};
 ghost use Rattle.store.specs.Lent.{grid_of};
 ghost use Rattle.machine.specs.Line.{Runs};
@@ -83,11 +82,9 @@ pub struct Scripted<'a> {
 }
 
 impl<'a> Scheduler for Scripted<'a> {
-    ghost knows = { λ s z at steps lines d ts ls. Passed z.lanes (turns z.lanes d ts) s.rest.group s.rest.lane };
+    ghost knows = { λ s n d. Passed n d s.rest.group s.rest.lane };
 
-    ghost ends = { λ s z at steps lines d ts ls. Passed z.lanes (turns z.lanes d ts) s.rest.group s.rest.lane };
-
-    fn next(&mut self, steps: &[u32], lines: usize, z: Sizes, lanes: &mut [u32]) -> Option<Choice> {
+    fn next(&mut self, steps: &[u32], lines: usize, z: Sizes, lanes: &[u32]) -> Option<Choice> {
         if let Some(found) = next_written(steps, lines, z, lanes, self.turns, self.from) {
             self.from = found.from;
             self.rest = InTurn { group: 0, lane: 0 };

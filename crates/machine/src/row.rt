@@ -1,19 +1,71 @@
 // The lanes of a mask, which all stand at one line, do it.
-ghost use Rattle.std.specs.Prelude.{◌≡◌, ℕ, ◌*◌, ◌<◌, ◌≤◌, List, length};
+ghost use Rattle.std.specs.Prelude.{◌≡◌, ℕ, suc, ◌+◌, ◌*◌, ◌<◌, ◌≤◌, true, List, length};
 ghost use Rattle.lanes.specs.Syntax.{Body};
-ghost use Rattle.store.specs.Layout.{cells_room};
-ghost use Rattle.store.specs.Lent.{Lent};
-ghost use Rattle.machine.specs.Line.{Loaded, Runs};
+ghost use Rattle.lanes.specs.Grid.{Grid, Turn};
+ghost use Rattle.store.specs.Layout.{Sized, room, cells_room};
+ghost use Rattle.store.specs.Lent.{Lent, Lined};
+ghost use Rattle.machine.specs.Sofar.{Sofar};
+ghost use Rattle.machine.specs.Line.{on, Loaded, LineDone};
 ghost use Rattle.machine.specs.Schedule.{RowCan};
-ghost use Rattle.machine.specs.Plans.{LineOutcome};
+ghost use Rattle.machine.specs.Plans.{RowIn, RowStood, RowSettled, RowRan};
 
-use super::exec::Active;
+use super::exec::{Active, is_on};
 use super::line::{do_line, is_inside};
 use super::outcome::Outcome;
-use masks::lowest;
-use store::{Sizes, line_of};
+use code::settle;
+use store::{Sizes, line_of, stand};
 
-// The lanes of the mask, which all stand at one line, do it, lowest first.
+// The lowest lane of a mask, if it has one.
+fn lowest_of(mask: u32) -> usize
+    ensures is { result < 32 → on mask result ≡ true }
+    ensures found { (i : ℕ) → i < 32 → on mask i ≡ true → result < 32 }
+{
+    for i in 0..32usize {
+        if is_on(mask, i) {
+            return i;
+        }
+    }
+    32
+}
+
+// The lanes of the mask stand at a line.
+fn stand_all(z: Sizes, lanes: &mut [u32], row: Active, line: u32)
+    requires sized { Sized z }
+    requires fit { room z ≤ length lanes.old }
+    requires inside { RowIn z row.group row.start row.mask }
+    ensures { RowStood z row.group row.start row.mask line 32 lanes.old lanes.new }
+{
+    for i in 0..32usize {
+        if is_on(row.mask, i) {
+            stand(z, lanes, row.group, row.start + i, line);
+        }
+    }
+}
+
+// The lanes of the mask, which all stand at `line`, stand where its jumps lead.
+fn settle_row(
+    steps: &[u32],
+    lines: usize,
+    z: Sizes,
+    lanes: &mut [u32],
+    row: Active,
+    line: usize,
+) -> usize
+    requires sized { Sized z }
+    requires fit { room z ≤ length lanes.old }
+    requires inside { RowIn z row.group row.start row.mask }
+    requires few { lines < 4294967296 }
+    ensures { RowSettled z steps.now lines row.group row.start row.mask line result lanes.old lanes.new }
+{
+    let entry = settle(steps, lines, line);
+    if entry == line || entry > lines {
+        return entry;
+    }
+    stand_all(z, lanes, row, entry as u32);
+    entry
+}
+
+// The lanes of the mask, which all stand at one line, do it, lowest first. At an else or an end they first go where that goes.
 pub fn do_row(
     text: &[u8],
     steps: &[u32],
@@ -27,15 +79,17 @@ pub fn do_row(
     requires lent { Lent z lanes.old cells.old }
     requires watch { 6 * cells_room z ≤ length marks.old }
     requires few { lines < 4294967296 }
-    ensures { (ns : List (List ℕ)) (at : ℕ → Body) → Loaded ns text.now steps.now lines z at → Runs z at steps.now lines lanes.old → RowCan z at lanes.old cells.old row.group row.start row.mask → LineOutcome z at steps.now lines lanes.old cells.old marks.old lanes.new cells.new marks.new row.group row.start row.mask result }
+    ensures ran { (ns : List (List ℕ)) (at : ℕ → Body) → Loaded ns text.now steps.now lines z at → Lined z (suc lines) lanes.old → RowCan z at lanes.old cells.old row.group row.start row.mask → RowRan z at (suc lines) lanes.old cells.old marks.old lanes.new cells.new marks.new row.group row.start row.mask result }
+    ensures done { (ns : List (List ℕ)) (at : ℕ → Body) (d : Grid) (ts : List Turn) → Loaded ns text.now steps.now lines z at → Lined z (suc lines) lanes.old → RowCan z at lanes.old cells.old row.group row.start row.mask → Sofar z at d ts lanes.old cells.old marks.old → LineDone z at d ts row.group row.start row.mask lanes.new cells.new marks.new result }
 {
     if !is_inside(z, row) {
         return Outcome::Fine;
     }
-    let low = lowest(row.mask);
+    let low = lowest_of(row.mask);
     if low >= 32 {
         return Outcome::Fine;
     }
     let line = line_of(z, lanes, row.group, row.start + low) as usize;
-    do_line(text, steps, lines, z, lanes, cells, marks, row, line)
+    let entry = settle_row(steps, lines, z, lanes, row, line);
+    do_line(text, steps, lines, z, lanes, cells, marks, row, entry)
 }

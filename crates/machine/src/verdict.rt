@@ -23,11 +23,3 @@ pub enum Went {
     On(u64),
     Told(Verdict),
 }
-
-// What was told, and how many steps of rows were done before it, with how many lanes in their masks.
-#[derive(Clone, Copy)]
-pub struct Ran {
-    pub verdict: Verdict,
-    pub rows: u64,
-    pub lanes: u64,
-}

@@ -1,9 +1,6 @@
 // Makes a field's bytes of cells in a text.
 #![tactic(auto)]
 
-ghost use Rattle.std.specs.Prelude.{◌≤◌, length, IfOk};
-ghost use Rattle.formats.specs.Field.{InRange};
-
 use cells::scan::Unread;
 use cells::text::{lines_before, read_cells, word_at};
 use formats::packed::write_field;
@@ -13,9 +10,7 @@ const USAGE: &str =
     "usage: pack GROUPS LANES STEPS [FILE]\nwrites the bytes of a field: cells as they are printed, or as decimal numbers, from the file or standard input";
 
 // A number in range; else a message says so.
-fn number(rt: &HostRuntime, word: &str, low: u64, high: u64) -> io::Result<u64>
-    ensures { IfOk result (λ n. (low ≤ n) × (n ≤ high)) }
-{
+fn number(rt: &HostRuntime, word: &str, low: u64, high: u64) -> io::Result<u64> {
     if let Ok(n) = word.parse::<u64>()
         && low <= n
         && n <= high
@@ -41,10 +36,11 @@ fn bad(rt: &HostRuntime, text: &[u8], at: usize) -> io::Result<()> {
     Err(io::Error::other("not a cell"))
 }
 
-// A field in range: so its bytes are read as that field.
-fn put(rt: &HostRuntime, groups: u64, lanes: u64, steps: u64, cells: &[u32]) -> io::Result<()>
-    requires { InRange groups lanes steps (length cells.now) }
-{
+fn write(rt: &HostRuntime, groups: u64, lanes: u64, steps: u64, cells: &[u32]) -> io::Result<()> {
+    if cells.len() > 1 << 24 {
+        rt.eprintln("more than 16777216 cells")?;
+        return Err(io::Error::other("too many cells"));
+    }
     let mut bytes: Vec<u8> = vec![in rt.alloc(); 0; 16 + 4 * cells.len()]?;
     match write_field(
         bytes.as_mut_slice(),
@@ -56,18 +52,6 @@ fn put(rt: &HostRuntime, groups: u64, lanes: u64, steps: u64, cells: &[u32]) -> 
         Some(_) => rt.write_all(bytes.as_slice()),
         None => Err(io::Error::other("no room for the bytes")),
     }
-}
-
-fn write(rt: &HostRuntime, groups: u64, lanes: u64, steps: u64, cells: &[u32]) -> io::Result<()>
-    requires groups { (1 ≤ groups) × (groups ≤ 1024) }
-    requires lanes { (1 ≤ lanes) × (lanes ≤ 1024) }
-    requires steps { steps ≤ 1099511627776 }
-{
-    if cells.len() > 1 << 24 {
-        rt.eprintln("more than 16777216 cells")?;
-        return Err(io::Error::other("too many cells"));
-    }
-    put(rt, groups, lanes, steps, cells)
 }
 
 fn pack(rt: &HostRuntime, words: &[String]) -> io::Result<()> {

@@ -1,6 +1,4 @@
 // Writes a program's text anew.
-#![tactic(auto)]
-
 use std::io;
 
 const USAGE: &str =

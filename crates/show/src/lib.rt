@@ -146,7 +146,7 @@ pub fn show(
     }
 }
 
-// Runs the text on the field, rows of lanes in lockstep.
+// Runs the text on the field, one lane after the other.
 pub fn run_shown(rt: &HostRuntime, text: &[u8], bytes: &[u8]) -> io::Result<()>
     ensures { OnOk result (EndsWell text.now bytes.now) }
 {

@@ -88,12 +88,10 @@ pub record Turned (z : Sizes) (at : ℕ → Body) (ls cs ls' cs' : List ℕ) (g 
   pub wrong : went_wrong deed ≡ true → (lane_at z at ls' g l).wrong ≡ true
   pub right : went_wrong deed ≡ false → (lane_at z at ls' g l).wrong ≡ (lane_at z at ls g l).wrong
 
--- A lane did what it had to do next, and stands at a line where that goes on; a wrong lane is marked, and stands at the line `stop`, where
--- nothing is left.
+-- A lane did what it had to do next; a wrong lane stands at the line `stop`, where nothing is left.
 pub record Did (z : Sizes) (ls cs ls' cs' : List ℕ) (g l stop : ℕ) (todo : Todo) (c v : ℕ) (deed : Deed) : Type 0 where
   pub lined : (lines : ℕ) → stop < lines → Goes lines todo → Lined z lines ls → Lined z lines ls'
   pub only : Only z g l ls ls'
-  pub sent : SentTo todo (line_at z ls' g l) ⊎ (slot_of z ls' g 1 l ≡ 1)
   pub placed : Placed z deed
   pub turned : (at : ℕ → Body) → at stop ≡ end → Ready z at ls g l todo c v → Turned z at ls cs ls' cs' g l deed
 

@@ -1,8 +1,8 @@
 // What one lane does.
-ghost use Rattle.std.specs.Prelude.{◌≡◌, ℕ, ◌+◌, ◌<◌, ◌≤◌, if◌then◌else◌, nat_eq};
+ghost use Rattle.std.specs.Prelude.{◌≡◌, ℕ, ◌+◌, ◌<◌, ◌≤◌, ◌⊎◌, if◌then◌else◌, nat_eq};
 ghost use Rattle.store.specs.Layout.{whose};
-ghost use Rattle.store.specs.Lent.{Lent};
-ghost use Rattle.store.specs.Acts.{TodoFits, Did};
+ghost use Rattle.store.specs.Lent.{Lent, line_at, slot_of};
+ghost use Rattle.store.specs.Acts.{TodoFits, Did, SentTo};
 
 use crate::words::{go_wrong, put_own, spot, stand};
 use crate::{Deed, Seen, Sizes, Todo};
@@ -38,7 +38,8 @@ pub fn perform(
     requires group { g < z.groups }
     requires lane { l < z.lanes }
     requires there { TodoFits z todo }
-    ensures { Did z lanes.old cells.old lanes.new cells.new g l stop todo c v result }
+    ensures did { Did z lanes.old cells.old lanes.new cells.new g l stop todo c v result }
+    ensures sent { SentTo todo (line_at z lanes.new g l) ⊎ (slot_of z lanes.new g 1 l ≡ 1) }
 {
     match todo {
         Todo::Put { own, next } => {

@@ -17,7 +17,6 @@ pub(crate) struct Case {
     pub text: Part,
     pub field: Part,
     pub turns: Part,
-    pub counts: Part,
     pub told: Part,
     pub either: bool,
 }
@@ -65,23 +64,20 @@ pub(crate) fn find_case(file: &[u8], at: usize) -> Option<Case> {
     let text = find_part(file, name.next, b"text")?;
     let field = part_or_none(file, text.next, b"field");
     let turns = part_or_none(file, field.next, b"turns");
-    let counts = part_or_none(file, turns.next, b"counts");
-    if let Some(told) = find_part(file, counts.next, b"told") {
+    if let Some(told) = find_part(file, turns.next, b"told") {
         return Some(Case {
             text,
             field,
             turns,
-            counts,
             told,
             either: false,
         });
     }
-    let told = find_part(file, counts.next, b"either")?;
+    let told = find_part(file, turns.next, b"either")?;
     Some(Case {
         text,
         field,
         turns,
-        counts,
         told,
         either: true,
     })

@@ -9,13 +9,6 @@ mod texts;
 
 use std::io;
 
-// The cases of a file that are programs to run.
-fn run_table(rt: &HostRuntime, name: &str) -> io::Result<()> {
-    let file = cli::read(rt, name)?;
-    let right = runs::run_all(rt, file.as_slice())?;
-    println!(rt; "{name}: {right} right")
-}
-
 fn main(rt: HostRuntime) -> io::Result<()> {
     let file = cli::read(&rt, "texts")?;
     let right = texts::read_all(file.as_slice());
@@ -25,8 +18,11 @@ fn main(rt: HostRuntime) -> io::Result<()> {
     let file = cli::read(&rt, "fields")?;
     let right = fields::run_all(&rt, file.as_slice())?;
     println!(rt; "fields: {right} right")?;
-    run_table(&rt, "runs")?;
-    run_table(&rt, "orders")?;
-    run_table(&rt, "counts")?;
+    let file = cli::read(&rt, "runs")?;
+    let right = runs::run_all(&rt, file.as_slice())?;
+    println!(rt; "runs: {right} right")?;
+    let file = cli::read(&rt, "orders")?;
+    let right = runs::run_all(&rt, file.as_slice())?;
+    println!(rt; "orders: {right} right")?;
     prints::print_all(&rt)
 }

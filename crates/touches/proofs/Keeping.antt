@@ -9,8 +9,7 @@ use Rattle.touches.specs.declared.Found.{Found}
 use Rattle.touches.specs.declared.Held.{Held}
 use Rattle.touches.specs.declared.Readers.{Readers}
 use Rattle.touches.specs.declared.Readers.TheVariants.{Nobody, One, Two}
-use Rattle.touches.specs.declared.Change.{Change}
-use Rattle.touches.specs.Code.{look_of, changed, joined_of, keep_of}
+use Rattle.touches.specs.Code.{look_of, joined_of, keep_of}
 use Rattle.touches.specs.Kept.{mark_of, Among, Was, Under, WriterKept, ReadersKept, Keeps, Rising, AnswersFor}
 use Rattle.touches.proofs.Marks.{more, newest, further, among-more}
 use Rattle.touches.proofs.Finding.{risen, look-exact}
@@ -56,13 +55,13 @@ module _ (w c : ℕ) (ms : List Mark) (t : Who) (rise : Rising ms (mark_of w c t
 
   one_more : (a : Who) → ReadersKept w c ms (One a) → now_kept (joined_of (One a) t)
   one_more a kept =
-      cond_both (not (eqb a.group t.group)) _ _ (λ (ch : Change). now_kept (changed ch (One a) t)) (λ h. (further _ _ ms kept.0, newest _ ms, inl (λ e. let z : ◌≡◌ {A = ℕ} 0 1 = grind (arith, nat_tests) in omega arith)))
+      cond_both (not (eqb a.group t.group)) _ _ now_kept (λ h. (further _ _ ms kept.0, newest _ ms, inl (λ e. let z : ◌≡◌ {A = ℕ} 0 1 = grind (arith, nat_tests) in omega arith)))
       (λ h. let same : a.group ≡ t.group = grind (arith, nat_tests) in
       let upto : a.phase ≤ t.phase = risen w c ms t false rise a false kept.0 same in
-      cond_both (ltb a.phase t.phase) _ _ (λ (ch : Change). now_kept (changed ch (One a) t))
+      cond_both (ltb a.phase t.phase) _ _ now_kept
       (λ k. let lt : a.phase < t.phase = grind (arith, nat_tests) in only (λ m was. up m a t (kept.1 m was) same lt))
       (λ k. let ge : a.phase ≡ t.phase = grind (arith, nat_tests) in
-      cond_both (eqb a.lane t.lane) _ _ (λ (ch : Change). now_kept (changed ch (One a) t))
+      cond_both (eqb a.lane t.lane) _ _ now_kept
       (λ j. let el : a.lane ≡ t.lane = grind (arith, nat_tests) in (
         further _ _ ms kept.0,
         λ m was. elim (newer w c ms (mark_of w c t false) m false was)
@@ -82,13 +81,13 @@ module _ (w c : ℕ) (ms : List Mark) (t : Who) (rise : Rising ms (mark_of w c t
 
   two-more : (a b : Who) → ReadersKept w c ms (Two a b) → now_kept (joined_of (Two a b) t)
   two-more a b kept =
-      cond_both (not (eqb a.group b.group)) _ _ (λ (ch : Change). now_kept (changed ch (Two a b) t))
+      cond_both (not (eqb a.group b.group)) _ _ now_kept
       (λ h. (further _ _ ms kept.0, further _ _ ms kept.1, inl (λ e. let z : ◌≡◌ {A = ℕ} 0 1 = grind (arith, nat_tests) in omega arith)))
       (λ h. let pair : a.group ≡ b.group = grind (arith, nat_tests) in
-      cond_both (not (eqb a.group t.group)) _ _ (λ (ch : Change). now_kept (changed ch (Two a b) t))
+      cond_both (not (eqb a.group t.group)) _ _ now_kept
       (λ i. (further _ _ ms kept.0, newest _ ms, inl (λ e. let z : ◌≡◌ {A = ℕ} 0 1 = grind (arith, nat_tests) in omega arith)))
       (λ i. let same : a.group ≡ t.group = grind (arith, nat_tests) in
-      cond_both (ltb a.phase t.phase) _ _ (λ (ch : Change). now_kept (changed ch (Two a b) t))
+      cond_both (ltb a.phase t.phase) _ _ now_kept
       (λ k. let lt : a.phase < t.phase = grind (arith, nat_tests) in
       only (λ m was. elim kept.2 [
         | inl ne ↦ absurd (ne pair)

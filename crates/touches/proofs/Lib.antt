@@ -2,6 +2,4 @@ pub mod Marks
 mod Finding
 mod Keeping
 mod Words
-mod Calm
-pub mod Whole
-pub mod Neighbours
+mod Whole

@@ -7,7 +7,7 @@ use Rattle.touches.specs.declared.Held.{Held}
 use Rattle.touches.specs.declared.Readers.TheVariants.{Nobody}
 use Rattle.touches.specs.declared.Found.{Found}
 use Rattle.touches.specs.Kept.{mark_of, Among, Keeps, Rising, AnswersFor}
-use Rattle.touches.specs.Code.{look_of, held_of, held_put, entry_of, unpacked_of, TouchedAt}
+use Rattle.touches.specs.Code.{look_of, held_of, held_put, entry_of, unpacked_of}
 use Rattle.touches.specs.Whole.{Layout, AllKept, Keepable, Touched}
 use Rattle.touches.proofs.Marks.{more}
 use Rattle.touches.proofs.Finding.{look-exact}
@@ -71,8 +71,3 @@ touch-some y w c i ms ks k a wrote f h some ok all rise =
     let some' : look_of (held_of ks i) a wrote ≡ Some f = rw (sym h) some in
     let P : Option Found → Type 0 = AnswersFor w c ms (mark_of w c a wrote) in
     let r = subst P some' (answers y w c i ms ks a wrote ok all rise) in (r.0, r.1, refl)
-
-pub touched-as : (y : Layout) (w c i : ℕ) (ms : List Mark) (ks ks' : List ℕ) (a : Who) (wrote : Bool) (r : Option Found) → TouchedAt ks ks' i a wrote r →
-    Keepable y w c i a ks → AllKept y ms ks → Rising ms (mark_of w c a wrote) → Touched y w c ms ks ks' a wrote r
-touched-as y w c i ms ks ks' a wrote None (none, e) ok all rise = touch-none y w c i ms ks ks' (held_of ks i) a wrote refl none e ok all rise
-touched-as y w c i ms ks ks' a wrote (Some f) (some, e) ok all rise = rw e (touch-some y w c i ms ks (held_of ks i) a wrote f refl some ok all rise)

@@ -1,12 +1,10 @@
 -- What the functions of this crate compute, each as a definition. The promises of the public functions are in Kept and Whole.
-use Rattle.std.specs.Prelude.{◌≡◌, ℕ, ◌+◌, ◌-◌, ◌*◌, ◌/◌, ◌%◌, Bool, true, false, cond, not, ◌&&◌, ◌||◌, List, Some, None, Option, ◌==◌, nat_lt, slice_index, slice_set}
+use Rattle.std.specs.Prelude.{ℕ, ◌+◌, ◌-◌, ◌*◌, ◌/◌, ◌%◌, Bool, true, false, cond, not, ◌&&◌, ◌||◌, List, Some, None, Option, ◌==◌, nat_lt, slice_index, slice_set}
 use Rattle.touches.specs.declared.Who.{Who}
 use Rattle.touches.specs.declared.Found.{Found}
 use Rattle.touches.specs.declared.Held.{Held}
 use Rattle.touches.specs.declared.Readers.{Readers}
 use Rattle.touches.specs.declared.Readers.TheVariants.{Nobody, One, Two}
-use Rattle.touches.specs.declared.Change.{Change}
-use Rattle.touches.specs.declared.Change.TheVariants.{Same, Only, Second}
 
 -- two touches of one cell that nothing parts
 abbrev pub apart_of : Who → Who → Bool
@@ -31,21 +29,11 @@ or_else (Some f) r = Some f
 abbrev pub look_of : Held → Who → Bool → Option Found
 look_of k t w = or_else (writer_of k.writer t) (cond w (reader_of k.readers t) None)
 
--- what one more reader changes
-abbrev pub change_of : Readers → Who → Change
-change_of Nobody t = Only
-change_of (One a) t = cond (not (a.group == t.group)) Second (cond (nat_lt a.phase t.phase) Only (cond (a.lane == t.lane) Same Second))
-change_of (Two a b) t = cond (not (a.group == b.group)) Same (cond (not (a.group == t.group)) Second (cond (nat_lt a.phase t.phase) Only Same))
-
-abbrev pub changed : Change → Readers → Who → Readers
-changed Same r t = r
-changed Only r t = One t
-changed Second Nobody t = Nobody
-changed Second (One a) t = Two a t
-changed Second (Two a b) t = Two a t
-
 abbrev pub joined_of : Readers → Who → Readers
-joined_of r t = changed (change_of r t) r t
+joined_of Nobody t = One t
+joined_of (One a) t = cond (not (a.group == t.group)) (Two a t) (cond (nat_lt a.phase t.phase) (One t) (cond (a.lane == t.lane) (One a) (Two a t)))
+joined_of (Two a b) t =
+    cond (not (a.group == b.group)) (Two a b) (cond (not (a.group == t.group)) (Two a t) (cond (nat_lt a.phase t.phase) (One t) (Two a b)))
 
 abbrev pub keep_of : Held → Who → Bool → Held
 keep_of k t w = cond w (record { writer = Some t; readers = k.readers }) (record { writer = k.writer; readers = joined_of k.readers t })
@@ -73,6 +61,16 @@ entry_of ks j = unpacked_of (slice_index ks (2 * j)) (slice_index ks (2 * j + 1)
 unfoldable pub entry_put : List ℕ → ℕ → Option Who → List ℕ
 entry_put ks j o = slice_set (slice_set ks (2 * j) (phase_word o)) (2 * j + 1) (name_word o)
 
+abbrev pub first_of : Readers → Option Who
+first_of Nobody = None
+first_of (One a) = Some a
+first_of (Two a b) = Some a
+
+abbrev pub second_of : Readers → Option Who
+second_of Nobody = None
+second_of (One a) = None
+second_of (Two a b) = Some b
+
 abbrev pub readers_by : Option Who → Option Who → Readers
 readers_by None b = Nobody
 readers_by (Some a) None = One a
@@ -82,27 +80,8 @@ readers_by (Some a) (Some b) = Two a b
 unfoldable pub held_of : List ℕ → ℕ → Held
 held_of ks i = record { writer = entry_of ks (3 * i); readers = readers_by (entry_of ks (3 * i + 1)) (entry_of ks (3 * i + 2)) }
 
-abbrev pub change_put : List ℕ → ℕ → Change → Who → List ℕ
-change_put ks i Same t = ks
-change_put ks i Only t = entry_put (entry_put ks (3 * i + 1) (Some t)) (3 * i + 2) None
-change_put ks i Second t = entry_put ks (3 * i + 2) (Some t)
+unfoldable pub readers_put : List ℕ → ℕ → Readers → List ℕ
+readers_put ks i r = entry_put (entry_put ks (3 * i + 1) (first_of r)) (3 * i + 2) (second_of r)
 
 unfoldable pub held_put : List ℕ → ℕ → Held → Who → Bool → List ℕ
-held_put ks i k t w = cond w (entry_put ks (3 * i) (Some t)) (change_put ks i (change_of k.readers t) t)
-
--- No earlier touch is named: by the entries of the writer and of the readers, one after the other.
-abbrev pub clear_of : Option Who → Who → Bool
-clear_of None t = true
-clear_of (Some a) t = not (apart_of a t)
-
-abbrev pub calm_readers : Option Who → Option Who → Who → Bool
-calm_readers None b t = true
-calm_readers (Some a) b t = cond (apart_of a t) false (clear_of b t)
-
-abbrev pub calm_of : Option Who → Option Who → Option Who → Who → Bool → Bool
-calm_of o a b t w = cond (clear_of o t) (cond w (calm_readers a b t) true) false
-
--- A touch at spot i: an earlier one with which it races, and then nothing changes; else it is kept.
-abbrev pub TouchedAt : List ℕ → List ℕ → ℕ → Who → Bool → Option Found → Type 0
-TouchedAt ks ks' i a w None = (look_of (held_of ks i) a w ≡ None) × (ks' ≡ held_put ks i (held_of ks i) a w)
-TouchedAt ks ks' i a w (Some f) = (look_of (held_of ks i) a w ≡ Some f) × (ks' ≡ ks)
+held_put ks i k t w = cond w (entry_put ks (3 * i) (Some t)) (readers_put ks i (joined_of k.readers t))

@@ -1,4 +1,3 @@
 pub mod Kept
 pub mod Code
 pub mod Whole
-pub mod Rows

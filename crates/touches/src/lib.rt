@@ -2,15 +2,11 @@
 // From that, whether the next touch races with an earlier one.
 #![tactic(auto)]
 
-mod rows;
-
 ghost use Rattle.std.specs.Prelude.{◌≡◌, ℕ, ◌+◌, ◌*◌, ◌<◌, ◌≤◌, Bool, List, [], ◌∷◌, length, Some, None};
 ghost use Rattle.lanes.specs.Grid.{Mark};
 ghost use Rattle.touches.specs.Kept.{mark_of, Keeps, Rising, AnswersFor};
-ghost use Rattle.touches.specs.Code.{apart_of, look_of, change_of, packed_of, unpacked_of, entry_of, entry_put, readers_by, held_of, change_put, held_put, clear_of, calm_of};
+ghost use Rattle.touches.specs.Code.{apart_of, look_of, joined_of, packed_of, unpacked_of, entry_of, entry_put, first_of, second_of, readers_by, held_of, readers_put, held_put};
 ghost use Rattle.touches.specs.Whole.{Layout, AllKept, Keepable, Touched};
-
-pub use rows::{Touches, lane_on, touch_row};
 
 // Who touched: the line is that of the program's text, by which a race is explained.
 #[derive(Clone, Copy)]
@@ -33,15 +29,6 @@ pub enum Readers {
 pub struct Held {
     pub writer: Option<Who>,
     pub readers: Readers,
-}
-
-// What one more reader changes: nothing; it is the only one that is kept, as of a later phase or the first; or it is kept beside the first, for good if
-// of a second group.
-#[derive(Clone, Copy)]
-pub enum Change {
-    Same,
-    Only,
-    Second,
 }
 
 // An earlier touch that races.
@@ -102,32 +89,32 @@ fn look(k: Held, t: Who, wrote: bool) -> Option<Found>
     }
 }
 
-// What one more reader changes.
-fn change_by(r: Readers, t: Who) -> Change
-    ensures { result ≡ change_of r t }
+// The readers with one more. A reader of a second group takes a place for good; a later phase takes the place of an earlier one.
+fn joined(r: Readers, t: Who) -> Readers
+    ensures { result ≡ joined_of r t }
 {
     match r {
-        Readers::Nobody => Change::Only,
+        Readers::Nobody => Readers::One(t),
         Readers::One(a) => {
             if a.group != t.group {
-                Change::Second
+                Readers::Two(a, t)
             } else if a.phase < t.phase {
-                Change::Only
+                Readers::One(t)
             } else if a.lane == t.lane {
-                Change::Same
+                Readers::One(a)
             } else {
-                Change::Second
+                Readers::Two(a, t)
             }
         }
         Readers::Two(a, b) => {
             if a.group != b.group {
-                Change::Same
+                r
             } else if a.group != t.group {
-                Change::Second
+                Readers::Two(a, t)
             } else if a.phase < t.phase {
-                Change::Only
+                Readers::One(t)
             } else {
-                Change::Same
+                r
             }
         }
     }
@@ -190,13 +177,24 @@ fn readers_from(a: Option<Who>, b: Option<Who>) -> Readers
     }
 }
 
-fn readers_at(kept: &[u64], i: usize) -> Readers
-    requires { 6 * i + 5 < length kept.now }
-    ensures { result ≡ readers_by (entry_of kept.now (3 * i + 1)) (entry_of kept.now (3 * i + 2)) }
+fn first(r: Readers) -> Option<Who>
+    ensures { result ≡ first_of r }
 {
-    let a = entry_at(kept, 3 * i + 1);
-    let b = entry_at(kept, 3 * i + 2);
-    readers_from(a, b)
+    match r {
+        Readers::Nobody => None,
+        Readers::One(a) => Some(a),
+        Readers::Two(a, _) => Some(a),
+    }
+}
+
+fn second(r: Readers) -> Option<Who>
+    ensures { result ≡ second_of r }
+{
+    match r {
+        Readers::Nobody => None,
+        Readers::One(_) => None,
+        Readers::Two(_, b) => Some(b),
+    }
 }
 
 fn held_at(kept: &[u64], i: usize) -> Held
@@ -212,82 +210,41 @@ fn held_at(kept: &[u64], i: usize) -> Held
     }
 }
 
-fn put_change(kept: &mut [u64], i: usize, c: Change, t: Who)
+fn put_readers(kept: &mut [u64], i: usize, r: Readers)
     requires { 6 * i + 5 < length kept.old }
-    ensures { kept.new ≡ change_put kept.old i c t }
+    ensures { kept.new ≡ readers_put kept.old i r }
 {
-    match c {
-        Change::Same => {}
-        Change::Only => {
-            put_entry(kept, 3 * i + 1, Some(t));
-            put_entry(kept, 3 * i + 2, None);
-        }
-        Change::Second => put_entry(kept, 3 * i + 2, Some(t)),
-    }
+    put_entry(kept, 3 * i + 1, first(r));
+    put_entry(kept, 3 * i + 2, second(r));
 }
 
-fn keep(kept: &mut [u64], i: usize, t: Who, wrote: bool)
+fn keep(kept: &mut [u64], i: usize, k: Held, t: Who, wrote: bool)
     requires { 6 * i + 5 < length kept.old }
-    ensures { kept.new ≡ held_put kept.old i (held_of kept.old i) t wrote }
+    ensures { kept.new ≡ held_put kept.old i k t wrote }
 {
     if wrote {
         put_entry(kept, 3 * i, Some(t));
     } else {
-        let readers = readers_at(kept, i);
-        put_change(kept, i, change_by(readers, t), t);
+        put_readers(kept, i, joined(k.readers, t));
     }
-}
-
-fn is_clear(a: Option<Who>, t: Who) -> bool
-    ensures { result ≡ clear_of a t }
-{
-    match a {
-        None => true,
-        Some(a) => !apart(a, t),
-    }
-}
-
-// The touch races with none. Only what has to be looked at is read: of most cells the writer, or two entries that nobody has touched.
-fn is_calm(kept: &[u64], i: usize, t: Who, wrote: bool) -> bool
-    requires { 6 * i + 5 < length kept.now }
-    ensures { result ≡ calm_of (entry_of kept.now (3 * i)) (entry_of kept.now (3 * i + 1)) (entry_of kept.now (3 * i + 2)) t wrote }
-{
-    if !is_clear(entry_at(kept, 3 * i), t) {
-        return false;
-    }
-    if !wrote {
-        return true;
-    }
-    match entry_at(kept, 3 * i + 1) {
-        None => true,
-        Some(a) => {
-            if apart(a, t) {
-                return false;
-            }
-            is_clear(entry_at(kept, 3 * i + 2), t)
-        }
-    }
-}
-
-// The earlier touch with which this one races.
-fn earlier(kept: &[u64], i: usize, t: Who, wrote: bool) -> Option<Found>
-    requires { 6 * i + 5 < length kept.now }
-    ensures { result ≡ look_of (held_of kept.now i) t wrote }
-{
-    look(held_at(kept, i), t, wrote)
 }
 
 // A touch of the cell whose words are at spot i: an earlier touch with which it races; or there is none, and it is kept.
 pub fn touch(kept: &mut [u64], i: usize, who: Who, wrote: bool) -> Option<Found>
-    requires { who.lane < 1024 }
     ensures exact { (y : Layout) (w c : ℕ) (ms : List Mark) → Keepable y w c i who kept.old → AllKept y ms kept.old → Rising ms (mark_of w c who wrote) → Touched y w c ms kept.old kept.new who wrote result }
     ensures outside { length kept.old ≤ 6 * i + 5 → (result ≡ None) × (kept.new ≡ kept.old) }
 {
     if i >= kept.len() / 6 {
         return None;
     }
-    let row = touch_row(kept, i, 1, who, wrote);
-    row.found
+    let held = held_at(kept, i);
+    match look(held, who, wrote) {
+        Some(found) => Some(found),
+        None => {
+            keep(kept, i, held, who, wrote);
+            None
+        }
+    }
 }
 
 // No touch is kept, whatever the words were.

@@ -7,6 +7,3 @@ mod Bracketed
 mod Coding
 mod Unpacking
 mod Packing
-mod Dividing
-mod Flats
-pub mod Held

@@ -9,24 +9,25 @@ use Rattle.grammar.specs.Names.{NamesIn, Distinct}
 use Rattle.grammar.specs.Words.{WordEnd}
 use Rattle.values.specs.declared.ops.Op.{Op}
 use Rattle.values.specs.declared.leaves.Leaf.{Leaf}
-use Rattle.values.specs.declared.items.Item.TheVariants.{Apply}
+use Rattle.values.specs.declared.items.Item.TheVariants.{Word, Apply}
 use Rattle.values.specs.declared.packed.Behind.{Behind}
 use Rattle.values.specs.Ops.{node, byte_of}
 use Rattle.values.specs.Worth.{simple, LeafAt}
-use Rattle.values.specs.Items.{item_of, LeafHere, Coded, Packed}
+use Rattle.values.specs.Items.{item_of, Coded, Packed}
 use Rattle.values.proofs.Spelt.{Halves, halves}
 use Rattle.values.proofs.Standing.{is-bracket, word-stop, word-leaf, leaf-more}
 use Rattle.values.proofs.Bracketed.{same_op, stands_left, stands_right, op-byte, long}
-use Rattle.values.proofs.Coding.{here_on, coded-leaf, coded-node, coded_kept}
+use Rattle.values.proofs.Coding.{coded-leaf, coded-node, coded_kept}
 
-pub packed-word : (text : List ℕ) (i : ℕ) (ws : List ℕ) (from j k : ℕ) (leaf : Leaf) → get_or text i 0 ≢ 40 → WordEnd text i j → i ≤ length text → LeafAt simple text (between i j text) leaf → LeafHere ws from leaf k →
-    Packed text i ws from record { byte = j; word = k }
-packed-word text i ws from j k leaf h we here at q =
+pub packed-word : (text : List ℕ) (i : ℕ) (ws : List ℕ) (from w j : ℕ) (leaf : Leaf) → get_or text i 0 ≢ 40 → WordEnd text i j → i ≤ length text → from < length ws → LeafAt simple text (between i j text) leaf → item_of w ≡ Word leaf →
+    Packed text i (set ws from w) from record { byte = j; word = from + 1 }
+packed-word text i ws from w j leaf h we here room at q =
     record {
-      more = here_on ws from leaf k q;
+      more = omega arith;
       inside = we.within here;
       stop = λ ns n di e s. word-stop ns text n i e s h j we;
-      code = λ ns n di owns le e s. coded-leaf owns ws from leaf e k q (leaf-more (length ns) owns leaf e le (word-leaf ns text n i e s h j we leaf di at));
+      code = λ ns n di owns le e s.
+          coded-leaf owns (set ws from w) from leaf e (ap item_of (get_or-set_same ws from w 0 room) ∙ q) (leaf-more (length ns) owns leaf e le (word-leaf ns text n i e s h j we leaf di at));
     }
 
 module _ (text : List ℕ) (i : ℕ) (ws xs : List ℕ) (from w : ℕ) (op : Op) (left right : Behind) (bracket : get_or text i 0 ≡ 40) (one : Packed text (i + 1) ws (from + 1) left) (is : byte_of op ≡ get_or text (left.byte + 1) 0) (two : Packed text (left.byte + 3) xs left.word right) (kept : (k : ℕ) → k < left.word → get_or xs k 0 ≡ get_or ws k 0) (fits : right.byte < length text) (room : from < length xs) (q : item_of w ≡ Apply op) where

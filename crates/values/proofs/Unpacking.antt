@@ -1,22 +1,23 @@
 -- What words of an expression are worth.
-use Rattle.std.proofs.Common.{◌≡◌, ℕ, ◌+◌, ◌≤◌, List, length, get_or, sym, ap, ◌∙◌, subst, arith}
+use Rattle.std.proofs.Common.{◌≡◌, ℕ, ◌+◌, ◌<◌, ◌≤◌, List, length, get_or, sym, ap, ◌∙◌, subst, arith}
 use Rattle.std.proofs.lemmas.List.{get_or_past}
 use Rattle.lanes.specs.Syntax.{Expr}
 use Rattle.lanes.specs.Step.{value}
 use Rattle.values.specs.declared.ops.Op.{Op}
 use Rattle.values.specs.declared.leaves.Leaf.{Leaf}
 use Rattle.values.specs.declared.row.Row.{Row}
-use Rattle.values.specs.declared.items.Item.TheVariants.{Apply, Nothing}
+use Rattle.values.specs.declared.items.Item.TheVariants.{Word, Apply, Nothing}
 use Rattle.values.specs.Ops.{op_of, Applied}
 use Rattle.values.specs.Rows.{Values, LeafWorth}
-use Rattle.values.specs.Items.{item_of, LeafHere, Coded, Unpacked}
+use Rattle.values.specs.Items.{item_of, Coded, Unpacked}
 use Rattle.values.proofs.Bracketed.{value-node}
-use Rattle.values.proofs.Coding.{NodeCoded, here_on, coded_word, coded_apply, coded_none}
+use Rattle.values.proofs.Coding.{NodeCoded, coded_word, coded_apply, coded_none}
 
 pub unpacked-none : (ws : List ℕ) (i : ℕ) (own : List ℕ) (r : Row) (out : List ℕ) → item_of (get_or ws i 0) ≡ Nothing → Unpacked ws i own r out i
 unpacked-none ws i own r out q =
     record {
       from = omega arith;
+      within = λ h. h;
       stop = λ e k c. absurd (coded_none r.owns ws i k q e c);
       each = λ e k c. absurd (coded_none r.owns ws i k q e c);
     }
@@ -24,16 +25,16 @@ unpacked-none ws i own r out q =
 pub unpacked-past : (ws : List ℕ) (i : ℕ) (own : List ℕ) (r : Row) (out : List ℕ) → length ws ≤ i → Unpacked ws i own r out i
 unpacked-past ws i own r out h = unpacked-none ws i own r out (ap item_of (get_or_past ws i 0 h))
 
-pub unpacked-leaf : (ws : List ℕ) (i : ℕ) (own : List ℕ) (r : Row) (out : List ℕ) (leaf : Leaf) (j : ℕ) → LeafHere ws i leaf j → LeafWorth leaf own r out → Unpacked ws i own r out j
-unpacked-leaf ws i own r out leaf j q worth =
-    let on = here_on ws i leaf j q in
+pub unpacked-word : (ws : List ℕ) (i : ℕ) (own : List ℕ) (r : Row) (out : List ℕ) (leaf : Leaf) → i < length ws → item_of (get_or ws i 0) ≡ Word leaf → LeafWorth leaf own r out → Unpacked ws i own r out (i + 1)
+unpacked-word ws i own r out leaf h q worth =
     record {
       from = omega arith;
-      stop = λ e k c. sym (coded_word r.owns ws i k leaf j q e c).1;
-      each = λ e k c. worth e (coded_word r.owns ws i k leaf j q e c).0;
+      within = λ _. omega arith;
+      stop = λ e k c. sym (coded_word r.owns ws i k leaf q e c).1;
+      each = λ e k c. worth e (coded_word r.owns ws i k leaf q e c).0;
     }
 
-module _ (ws : List ℕ) (i : ℕ) (own : List ℕ) (r : Row) (out : List ℕ) (mid : ℕ) (right : List ℕ) (end : ℕ) (op : Op) (all : List ℕ) (q : item_of (get_or ws i 0) ≡ Apply op) (one : Unpacked ws (i + 1) own r out mid) (two : Unpacked ws mid own r right end) (wide : length right ≡ length out) (done : Applied op out right all) where
+module _ (ws : List ℕ) (i : ℕ) (own : List ℕ) (r : Row) (out : List ℕ) (mid : ℕ) (right : List ℕ) (end : ℕ) (op : Op) (all : List ℕ) (here : i < length ws) (q : item_of (get_or ws i 0) ≡ Apply op) (one : Unpacked ws (i + 1) own r out mid) (two : Unpacked ws mid own r right end) (wide : length right ≡ length out) (done : Applied op out right all) where
   module _ (e : Expr) (j : ℕ) (c : Coded r.owns ws i e j) where
     parts : NodeCoded r.owns ws i op e j
     parts = coded_apply r.owns ws i j op q e c
@@ -59,6 +60,7 @@ module _ (ws : List ℕ) (i : ℕ) (own : List ℕ) (r : Row) (out : List ℕ) (
   unpacked-apply =
       record {
         from = omega (arith, one.from, two.from);
+        within = λ _. two.within (one.within (omega arith));
         stop = λ e k c. two.stop (parts e k c).right k (right_there e k c);
         each = worth;
       }

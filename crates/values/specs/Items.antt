@@ -1,11 +1,11 @@
 -- Expressions as words: an operator before its two operands.
-use Rattle.std.specs.Prelude.{◌≡◌, ℕ, ◌+◌, ◌/◌, ◌%◌, ◌<◌, ◌≤◌, cond, ◌⊎◌, List, length, ◌==◌, slice_index}
+use Rattle.std.specs.Prelude.{◌≡◌, ℕ, ◌+◌, ◌/◌, ◌%◌, ◌<◌, ◌≤◌, cond, List, length, ◌==◌, slice_index}
 use Rattle.lanes.specs.Syntax.{Expr, fixed, var, lane, group, lanes, plus, minus, times, over, rest_of, less, same}
 use Rattle.values.specs.declared.ops.Op.TheVariants.{Plus, Minus, Times, Over, Rest, Less, Same}
 use Rattle.values.specs.declared.leaves.Leaf.{Leaf}
 use Rattle.values.specs.declared.leaves.Leaf.TheVariants.{Fixed, Own, Lane, Group, Lanes}
 use Rattle.values.specs.declared.items.Item.{Item}
-use Rattle.values.specs.declared.items.Item.TheVariants.{Word, Wide, Apply, Nothing}
+use Rattle.values.specs.declared.items.Item.TheVariants.{Word, Apply, Nothing}
 use Rattle.grammar.specs.Spelling.{Named}
 use Rattle.grammar.specs.Stands.{Stands}
 use Rattle.grammar.specs.Names.{NamesIn, Distinct}
@@ -14,7 +14,7 @@ use Rattle.values.specs.declared.packed.Behind.{Behind}
 use Rattle.values.specs.Worth.{LeafIs}
 use Rattle.values.specs.Rows.{Values}
 
--- What a word is: its kind in the low four bits, a number above. A wide number is the next word.
+-- What a word is: its kind in the low four bits, a number above.
 abbrev pub kind_of_spec : ℕ → ℕ → Item
 kind_of_spec k a =
     cond (k == 1) (Word (Fixed a))
@@ -28,8 +28,7 @@ kind_of_spec k a =
     (cond (k == 9) (Apply Over)
     (cond (k == 10) (Apply Rest)
     (cond (k == 11) (Apply Less)
-    (cond (k == 12) (Apply Same)
-    (cond (k == 13) Wide Nothing))))))))))))
+    (cond (k == 12) (Apply Same) Nothing)))))))))))
 
 abbrev pub item_of : ℕ → Item
 item_of w = kind_of_spec (w % 16) (w / 16)
@@ -42,21 +41,12 @@ Large Lane = ⊥
 Large Group = ⊥
 Large Lanes = ⊥
 
--- At place i of the words stands the leaf, in one word or as a wide number, and at j is what is behind it.
-abbrev pub LeafHere : List ℕ → ℕ → Leaf → ℕ → Type 0
-LeafHere ws i leaf j =
-    ((item_of (slice_index ws i) ≡ Word leaf) × (j ≡ i + 1))
-    ⊎ ((item_of (slice_index ws i) ≡ Wide) × (leaf ≡ Fixed (slice_index ws (i + 1))) × (j ≡ i + 2))
-
--- There stands none.
-unfoldable pub NoLeaf : List ℕ → ℕ → Type 0
-NoLeaf ws i = (leaf : Leaf) (j : ℕ) → LeafHere ws i leaf j → ⊥
-
--- There stands a leaf that is the expression.
+-- At place i of the words stands a leaf that is the expression, and at j is what is behind it.
 pub record LeafCoded (owns : ℕ) (ws : List ℕ) (i : ℕ) (e : Expr) (j : ℕ) : Type 0 where
   pub leaf : Leaf
-  pub here : LeafHere ws i leaf j
+  pub item : item_of (slice_index ws i) ≡ Word leaf
   pub is : LeafIs owns leaf e
+  pub next : j ≡ i + 1
 
 -- From place i up to j the words are the expression. Own numbers are below `owns`.
 unfoldable pub Coded : ℕ → List ℕ → ℕ → Expr → ℕ → Type 0
@@ -77,6 +67,7 @@ Coded owns ws i (same e f) j = (m : ℕ) × (item_of (slice_index ws i) ≡ Appl
 -- lane, and that the expression ends at j.
 pub record Unpacked (ws : List ℕ) (i : ℕ) (own : List ℕ) (r : Row) (out : List ℕ) (j : ℕ) : Type 0 where
   pub from : i ≤ j
+  pub within : i ≤ length ws → j ≤ length ws
   pub stop : (e : Expr) (k : ℕ) → Coded r.owns ws i e k → j ≡ k
   pub each : (e : Expr) (k : ℕ) → Coded r.owns ws i e k → Values r own e out
 

@@ -3,4 +3,3 @@ pub mod Worth
 pub mod Rows
 pub mod Items
 pub mod Ready
-pub mod Sides

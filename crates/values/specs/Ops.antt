@@ -1,5 +1,5 @@
 -- The operators of the language.
-use Rattle.std.specs.Prelude.{◌≡◌, ℕ, ◌+◌, ◌*◌, ◌<◌, ◌≤◌, ◌≢◌, List, length, Some, None, Option, slice_index}
+use Rattle.std.specs.Prelude.{◌≡◌, ℕ, ◌<◌, ◌≤◌, ◌≢◌, List, length, Some, None, Option, slice_index}
 use Rattle.lanes.specs.Syntax.{Expr, plus, minus, times, over, rest_of, less, same}
 use Rattle.lanes.specs.Step.{sum_of, difference_of, product_of, quotient_of, remainder_of, less_of, same_of}
 use Rattle.values.specs.declared.ops.Op.{Op}
@@ -45,13 +45,3 @@ pub record Applied (op : Op) (x y z : List ℕ) : Type 0 where
   pub long : length z ≡ length x
   pub each : (k : ℕ) → k < length x → k < length y → slice_index z k ≡ op_of op (slice_index x k) (slice_index y k)
   pub rest : (k : ℕ) → length y ≤ k → slice_index z k ≡ slice_index x k
-
--- Each of the numbers z is x op c.
-pub record AppliedTo (op : Op) (x : List ℕ) (c : ℕ) (z : List ℕ) : Type 0 where
-  pub long : length z ≡ length x
-  pub each : (k : ℕ) → k < length x → slice_index z k ≡ op_of op (slice_index x k) c
-
--- q is the quotient of a by c, or one less.
-pub record Near (a c q : ℕ) : Type 0 where
-  pub below : q * c ≤ a
-  pub above : a < q * c + 2 * c

@@ -8,11 +8,11 @@ use Rattle.values.specs.declared.row.Row.{Row}
 use Rattle.values.specs.Rows.{Values}
 use Rattle.values.specs.Items.{Coded}
 
--- From a place on the words hold a 0, or, in front of place `to`, the expression that stands at byte i of the text, whichever it is.
-abbrev pub Ready : List ℕ → ℕ → List ℕ → ℕ → ℕ → Type 0
-Ready text i ws from to =
+-- From a place on the words hold a 0, or the expression that stands at byte i of the text, whichever it is.
+abbrev pub Ready : List ℕ → ℕ → List ℕ → ℕ → Type 0
+Ready text i ws from =
     (slice_index ws from ≡ 0)
-    ⊎ ((ns : List (List ℕ)) → NamesIn ns text → Distinct ns → (owns : ℕ) → length ns ≤ owns → (e : Expr) → Stands (Named ns) text i e → (j : ℕ) × (j ≤ to) × Coded owns ws from e j)
+    ⊎ ((ns : List (List ℕ)) → NamesIn ns text → Distinct ns → (owns : ℕ) → length ns ≤ owns → (e : Expr) → Stands (Named ns) text i e → (j : ℕ) × Coded owns ws from e j)
 
 -- The numbers are the values, for each lane, of whichever expression stands at byte i of the text.
 abbrev pub Worth : List ℕ → ℕ → List ℕ → Row → List ℕ → Type 0

@@ -18,7 +18,7 @@ fn fill(out: &mut [u32], v: u32)
 }
 
 // The numbers from first on.
-pub fn count(out: &mut [u32], first: u32)
+fn count(out: &mut [u32], first: u32)
     requires { first + length out.old ≤ 2 ^ 32 }
     ensures { (i : ℕ) → i < length out.new → slice_index out.new i ≡ first + i }
 {

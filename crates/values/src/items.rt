@@ -1,5 +1,4 @@
-// Words and operators of an expression as numbers of 32 bits: what it is in the low four bits, a number or an own number's place above;
-// a number that is too large for that is wide, and stands in the next word.
+// Words and operators of an expression as numbers of 32 bits: what it is in the low four bits, a number or an own number's place above.
 ghost use Rattle.std.specs.Prelude.{◌≡◌, MatchOption};
 ghost use Rattle.values.specs.Items.{item_of, Large};
 
@@ -9,7 +8,6 @@ use crate::ops::Op;
 #[derive(Clone, Copy)]
 pub enum Item {
     Word(Leaf),
-    Wide,
     Apply(Op),
     Nothing,
 }
@@ -31,7 +29,6 @@ pub fn unpack(w: u32) -> Item
         10 => Item::Apply(Op::Rest),
         11 => Item::Apply(Op::Less),
         12 => Item::Apply(Op::Same),
-        13 => Item::Wide,
         _ => Item::Nothing,
     }
 }
@@ -59,13 +56,6 @@ pub fn pack_leaf(leaf: Leaf) -> Option<u32>
         Leaf::Group => Some(4),
         Leaf::Lanes => Some(5),
     }
-}
-
-// The word in front of a wide number.
-pub fn pack_wide() -> u32
-    ensures { item_of result ≡ Item.Wide }
-{
-    13
 }
 
 pub fn pack_op(op: Op) -> u32

@@ -2,7 +2,6 @@
 #![tactic(auto)]
 
 pub mod eval;
-pub mod fixed;
 pub mod items;
 pub mod leaves;
 pub mod ops;
@@ -10,4 +9,3 @@ pub mod packed;
 pub mod ready;
 pub mod row;
 pub mod rows;
-pub mod sides;

@@ -8,21 +8,15 @@ use crate::packed::{compact, eval_words};
 use crate::row::Row;
 
 // Puts the expression that stands at a byte of the text into the words from a place up to another; a 0 at the first if it does not fit.
-// The place behind it is left to whatever comes next.
-pub fn make_ready(text: &[u8], at: usize, words: &mut [u32], from: usize, to: usize) -> usize
+pub fn make_ready(text: &[u8], at: usize, words: &mut [u32], from: usize, to: usize)
     requires some { from < to }
     requires there { to ≤ length words.old }
     ensures kept { (k : ℕ) → (k < from) ⊎ (to ≤ k) → slice_index words.new k ≡ slice_index words.old k }
-    ensures more { from < result }
-    ensures within { result ≤ to }
-    ensures ready { Ready text.now at words.new from result }
+    ensures ready { Ready text.now at words.new from }
 {
     match compact(text, at, words, from, to) {
-        Some(behind) => behind.word,
-        None => {
-            words[from] = 0;
-            from + 1
-        }
+        Some(_) => {}
+        None => words[from] = 0,
     }
 }
 
@@ -37,10 +31,10 @@ pub fn eval_at(
     out: &mut [u32],
 )
     requires { RowFits row own.now (length out.old) }
-    ensures { (to : ℕ) → Ready text.now at words.now from to → Worth text.now at own.now row out.new }
+    ensures { Ready text.now at words.now from → Worth text.now at own.now row out.new }
 {
     if from < words.len() && words[from] != 0 {
-        eval_words(words, from, own, &row, out);
+        eval_words(words, from, own, row, out);
     } else {
         eval_row(text, at, own, row, out);
     }

@@ -1,6 +1,5 @@
-use Rattle.std.proofs.Common.{refl, arith}
-use Rattle.touches.proofs.Whole.{room_for, touched-as}
-use Rattle.touches.proofs.Neighbours.{row-of-one}
+use Rattle.std.proofs.Common.{sym, refl, ◌∙◌, arith}
+use Rattle.touches.proofs.Whole.{room_for, touch-none, touch-some}
 use Rattle.touches.proofs.touch.Goals as goal
 
 pub returns-then-i-kept : goal.returns-then-i-kept
@@ -9,9 +8,16 @@ returns-then-i-kept c = record {
   outside = λ h. (refl, refl);
 }
 
-pub returns : goal.returns
-returns c = record {
-  exact = λ y w cell ms ok all rise. touched-as y w cell c.args.i ms c.args.kept.now c.touch_row-row.new.words c.args.who c.args.wrote c.touch_row-row.result.found
-      (row-of-one c.args.kept.now c.touch_row-row.new.words c.args.i c.args.who c.args.wrote c.touch_row-row.result.many c.touch_row-row.result.found c.touch_row-row.ensures) ok all rise;
+pub returns-in-Some : goal.returns-in-Some
+returns-in-Some c = record {
+  exact = λ y w cell ms ok all rise. touch-some y w cell c.args.i ms c.args.kept.now c.held_at-held.result c.args.who c.args.wrote c.in-Some.found
+      c.held_at-held.ensures (sym c.look.ensures ∙ c.in-Some.is) ok all rise;
+  outside = λ h. absurd (let t = c.if-i-kept.false in omega arith);
+}
+
+pub returns-in-None : goal.returns-in-None
+returns-in-None c = record {
+  exact = λ y w cell ms ok all rise. touch-none y w cell c.args.i ms c.args.kept.now c.keep.new.kept c.held_at-held.result c.args.who c.args.wrote
+      c.held_at-held.ensures (sym c.look.ensures ∙ c.in-None.is) c.keep.ensures ok all rise;
   outside = λ h. absurd (let t = c.if-i-kept.false in omega arith);
 }

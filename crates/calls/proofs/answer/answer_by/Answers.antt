@@ -4,16 +4,15 @@ use Rattle.formats.specs.Wrote.{Wrote}
 use Rattle.calls.proofs.Answering.{lent, bytes-there, granted-few, some_lane, for-any, starts, field-long, printed-there, told-right}
 use Rattle.calls.proofs.answer.answer_by.Goals as goal
 
-pub judge-ran-requires : goal.judge-ran-requires
-judge-ran-requires g c =
+pub judge-verdict-requires : goal.judge-verdict-requires
+judge-verdict-requires g c =
     let k = c.in-Ok.ensures.known in
     record {
       lent = lent _ _ _ _ k c.args.lanes.now c.args.cells.now refl refl;
       watch = k.touches_fit;
       field = bytes-there _ _ _ _ k;
       most = granted-few _ _ _ _ k;
-      starts = starts _ _ _ _ k c.args.steps.now refl;
-      ready = c.requires;
+      starts = starts _ _ _ _ k g.S.Scheduler.knows c.args.s.now c.args.steps.now refl c.requires;
     }
 
 pub unreachable-requires : goal.unreachable-requires
@@ -28,16 +27,10 @@ returns g c =
     let k = c.in-Ok.ensures.known in
     let e = c.in-Ok-print_told.ensures in
     record {
-      answered = record {
-        plan = c.in-Ok.plan;
-        taken = sym c.in-Ok.ensures.is;
-        judged = λ ns q t.
-            let run = c.judge-ran.ensures ns q (for-any _ _ _ _ k ns q c.args.steps.now refl t) in
-            told-right _ q _ _ _ _ c.judge-ran.result.verdict c.told_by-told.result _ (some_lane _ _ _ _ k) (c.told_by-told.ensures _) run.shows;
-        counted = λ ns q t.
-            let run = c.judge-ran.ensures ns q (for-any _ _ _ _ k ns q c.args.steps.now refl t) in
-            record { choices = run.choices; rows_are = run.rows_are; lanes_are = run.lanes_are };
-        prints = subst (λ (xs : List ℕ). Wrote c.args.printed.now c.print_told.new.out 0 c.in-Ok-print_told.len (printed c.told_by-told.result xs)) c.field_cells.ensures e.1;
-      };
-      came = (c.in-Ok.plan, sym c.in-Ok.ensures.is, λ ns q t. c.judge-ran.ensures ns q (for-any _ _ _ _ k ns q c.args.steps.now refl t));
+      plan = c.in-Ok.plan;
+      taken = sym c.in-Ok.ensures.is;
+      judged = λ ns q t.
+          let run = c.judge-verdict.ensures ns q (for-any _ _ _ _ k ns q c.args.steps.now refl t) in
+          told-right _ q _ _ _ _ c.judge-verdict.result c.told_by-told.result run.0 (some_lane _ _ _ _ k) (c.told_by-told.ensures _) run.1;
+      prints = subst (λ (xs : List ℕ). Wrote c.args.printed.now c.print_told.new.out 0 c.in-Ok-print_told.len (printed c.told_by-told.result xs)) c.field_cells.ensures e.1;
     }

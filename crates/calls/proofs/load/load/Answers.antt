@@ -4,7 +4,7 @@ use Rattle.calls.proofs.load.load.Goals as goal
 
 pub returns : goal.returns
 returns c ns p f =
-    loads ns p c.args.z c.args.text.now c.args.bytes.now c.args.steps.now c.compile-lines.new.steps c.prepare.new.steps c.args.lanes.now _ c.start.new.lanes c.start.new.cells c.clear.new.words c.count_all.new.lanes c.compile-lines.result c.requires.lent.sized f
-    (c.compile-lines.ensures.made ns p f.taken f.steps_fit) c.prepare.ensures c.start.ensures
+    loads ns p c.args.z c.args.text.now c.args.bytes.now c.args.steps.now c.compile.new.steps c.args.lanes.now _ c.start.new.lanes c.start.new.cells c.clear.new.words c.compile.result f
+    (c.compile.ensures.made ns p f.taken f.steps_fit) c.start.ensures
     (field-copied c.args.z _ _ c.args.cells.now c.copy_cells.new.out c.args.bytes.now (omega arith) c.copy_cells.ensures (simp (length-take, length-drop) (omega arith)))
-    c.clear.ensures c.count_all.ensures
+    c.clear.ensures

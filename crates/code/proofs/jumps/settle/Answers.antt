@@ -21,14 +21,21 @@ loop-to-preserved c = (
 )
 
 pub returns-then-to-here : goal.returns-then-to-here
-returns-then-to-here c = λ ns text owns at h k.
-    let i = c.loop-to.invariant.1 ns text owns at h k in
-    let j = jumped (Named ns) text owns c.args.lines at (step_at c.args.steps.now c.args.lines) c.loop-to.here c.in-Jump.to k i.1 c.in-Jump.ensures in
-    let stays = back (Named ns) text owns c.args.lines at (step_at c.args.steps.now c.args.lines) c.loop-to.here c.in-Jump.to k i.1 c.in-Jump.ensures c.if-to-here.true in
-    record { left = j.0 ∙ i.0; within = j.1; stays = stays; leads = c.loop-to.invariant.0 _ (jumps c.in-Jump.to (sym c.in-Jump.ensures) (rests refl stays)) }
+returns-then-to-here c = record {
+  settled = λ ns text owns at h k.
+      let i = c.loop-to.invariant.1 ns text owns at h k in
+      let j = jumped (Named ns) text owns c.args.lines at (step_at c.args.steps.now c.args.lines) c.loop-to.here c.in-Jump.to k i.1 c.in-Jump.ensures in
+      record { left = j.0 ∙ i.0; within = j.1; stays = back (Named ns) text owns c.args.lines at (step_at c.args.steps.now c.args.lines) c.loop-to.here c.in-Jump.to k i.1 c.in-Jump.ensures c.if-to-here.true };
+  leads = λ ns text owns at h k.
+      let i = c.loop-to.invariant.1 ns text owns at h k in
+      let stays = back (Named ns) text owns c.args.lines at (step_at c.args.steps.now c.args.lines) c.loop-to.here c.in-Jump.to k i.1 c.in-Jump.ensures c.if-to-here.true in
+      c.loop-to.invariant.0 _ (jumps c.in-Jump.to (sym c.in-Jump.ensures) (rests refl stays));
+}
 
 pub returns-in_default : goal.returns-in_default
-returns-in_default c = λ ns text owns at h k.
-    let i = c.loop-to.invariant.1 ns text owns at h k in
+returns-in_default c =
     let stays = ap is_jump (sym c.decode.ensures) ∙ no_jump c.decode.result c.in_default.not-Jump in
-    record { left = i.0; within = i.1; stays = stays; leads = c.loop-to.invariant.0 _ (rests refl stays) }
+    record {
+      settled = λ ns text owns at h k. let i = c.loop-to.invariant.1 ns text owns at h k in record { left = i.0; within = i.1; stays = stays };
+      leads = λ ns text owns at h k. c.loop-to.invariant.0 _ (rests refl stays);
+    }

@@ -1,4 +1,4 @@
-use Rattle.std.proofs.Common.{◌≡◌, ℕ, ◌+◌, sym, refl, subst, arith}
+use Rattle.std.proofs.Common.{◌≡◌, ℕ, ◌+◌, ◌++◌, sym, subst, arith}
 use Rattle.machine.specs.declared.schedule.Choice.{Choice}
 use Rattle.machine.specs.declared.schedule.Choice.TheVariants.{Row}
 use Rattle.machine.specs.Line.{lanes_in, row_turns}
@@ -12,41 +12,39 @@ returns-in-GoOn c = λ ns at d ts k st cd.
     let z = c.args.z in let ls = c.args.lanes.now in let cs = c.args.cells.now in let ks = c.args.marks.now in let g = c.in-GoOn.group in
     let cd' = subst (λ (x : Choice). CanDo z at ls cs x) c.in-GoOn.is cd in
     let goes = subst (λ (x : Choice). MayGo z c.args.steps.now c.args.lines ls x) c.in-GoOn.is c.requires.goes in
-    subst (λ (x : Choice). WentTo z at c.args.steps.now c.args.lines d ts ls cs c.release.new.lanes cs ks c.args.granted c.args.done c.args.done x) (sym c.in-GoOn.is)
-    (went-go z at c.args.steps.now c.args.lines d ts ls cs ks c.args.done c.requires.lent.sized st c.release.new.lanes c.args.granted g goes.0 cd' c.release.ensures c.requires.within)
+    subst (λ (x : Choice). WentTo z at c.args.lines d ls cs c.release.new.lanes cs ks c.args.granted c.args.done c.args.done x) (sym c.in-GoOn.is)
+    (went-go ns c.args.text.now c.args.steps.now c.args.lines z at d ts ls cs ks c.args.done k c.requires.lent.sized st c.release.new.lanes c.args.granted g goes.0 cd' c.release.ensures c.requires.within)
 
 pub returns-then-granted-done : goal.returns-then-granted-done
 returns-then-granted-done c = λ ns at d ts k st cd.
     let z = c.args.z in let ls = c.args.lanes.now in let cs = c.args.cells.now in let ks = c.args.marks.now in
     let g = c.in-Row.group in let start = c.in-Row.start in let mask = c.in-Row.mask in
-    let cd' = subst (λ (x : Choice). CanDo z at ls cs x) c.in-Row.is cd in
-    record {
-      us = row_turns g start mask 32;
-      shows = shows-long z at c.args.steps.now c.args.lines d ts ls cs ks c.args.done c.requires.lent.sized st c.args.granted g start mask cd' c.requires.within
-          (let e = c.count-many.ensures in let t = c.if-granted-done.true in omega arith);
-      stopped = refl;
-    }
+    let cd' = subst (λ (x : Choice). CanDo z at ls cs x) c.in-Row.is cd in (
+      ts ++ row_turns g start mask 32,
+      shows-long ns c.args.text.now c.args.steps.now c.args.lines z at d ts ls cs ks c.args.done k c.requires.lent.sized st c.args.granted g start mask cd' c.requires.within
+          (let e = c.lanes_of-many.ensures in let t = c.if-granted-done.true in omega arith),
+    )
 
 pub returns-in-Fine : goal.returns-in-Fine
 returns-in-Fine c = λ ns at d ts k st cd.
     let z = c.args.z in let ls = c.args.lanes.now in let cs = c.args.cells.now in let ks = c.args.marks.now in
     let g = c.in-Row.group in let start = c.in-Row.start in let mask = c.in-Row.mask in
-    let e = c.count-many.ensures in let t = c.if-granted-done.false in
+    let e = c.lanes_of-many.ensures in let t = c.if-granted-done.false in
     let cd' = subst (λ (x : Choice). CanDo z at ls cs x) c.in-Row.is cd in
-    let w = went-row z at c.args.steps.now c.args.lines d ts ls cs ks c.args.done c.requires.lent.sized st c.do_row.new.lanes c.do_row.new.cells c.do_row.new.marks c.add_row.new.lanes
-    c.args.granted g start mask cd' (c.in-Fine.ensures ns at k st.runs cd') c.add_row.ensures c.requires.within (omega arith) in
-    let m : c.args.done + lanes_in mask 32 ≡ c.args.done + c.count-many.result = omega arith in
-    subst (λ (x : Choice). WentTo z at c.args.steps.now c.args.lines d ts ls cs c.add_row.new.lanes c.do_row.new.cells c.do_row.new.marks c.args.granted c.args.done (c.args.done + c.count-many.result) x) (sym c.in-Row.is)
-    (subst (λ (i : ℕ). WentTo z at c.args.steps.now c.args.lines d ts ls cs c.add_row.new.lanes c.do_row.new.cells c.do_row.new.marks c.args.granted c.args.done i (Row g start mask)) m w)
+    let w = went-row ns c.args.text.now c.args.steps.now c.args.lines z at d ts ls cs ks c.args.done k c.requires.lent.sized st c.do_row.new.lanes c.do_row.new.cells c.do_row.new.marks
+    c.args.granted g start mask cd' (c.in-Fine.ensures.ran ns at k st.lined cd') c.requires.within (omega arith) in
+    let m : c.args.done + lanes_in mask 32 ≡ c.args.done + c.lanes_of-many.result = omega arith in
+    subst (λ (x : Choice). WentTo z at c.args.lines d ls cs c.do_row.new.lanes c.do_row.new.cells c.do_row.new.marks c.args.granted c.args.done (c.args.done + c.lanes_of-many.result) x) (sym c.in-Row.is)
+    (subst (λ (i : ℕ). WentTo z at c.args.lines d ls cs c.do_row.new.lanes c.do_row.new.cells c.do_row.new.marks c.args.granted c.args.done i (Row g start mask)) m w)
 
 pub returns-in-Raced : goal.returns-in-Raced
 returns-in-Raced c = λ ns at d ts k st cd.
     let cd' = subst (λ (x : Choice). CanDo c.args.z at c.args.lanes.now c.args.cells.now x) c.in-Row.is cd in
-    let r = c.in-Raced.ensures ns at k st.runs cd' in
-    record { us = row_turns c.in-Row.group c.in-Row.start c.in-Row.mask r.many; shows = r.after d ts st.sofar c.args.granted; stopped = refl }
+    let r = c.in-Raced.ensures.ran ns at k st.lined cd' in
+    (ts ++ row_turns c.in-Row.group c.in-Row.start c.in-Row.mask r.many, r.after d ts st.sofar c.args.granted)
 
 pub returns-in-Wrong : goal.returns-in-Wrong
 returns-in-Wrong c = λ ns at d ts k st cd.
     let cd' = subst (λ (x : Choice). CanDo c.args.z at c.args.lanes.now c.args.cells.now x) c.in-Row.is cd in
-    let r = c.in-Wrong.ensures ns at k st.runs cd' in
-    record { us = row_turns c.in-Row.group c.in-Row.start c.in-Row.mask r.many; shows = r.after d ts st.sofar c.args.granted; stopped = refl }
+    let r = c.in-Wrong.ensures.ran ns at k st.lined cd' in
+    (ts ++ row_turns c.in-Row.group c.in-Row.start c.in-Row.mask r.many, r.after d ts st.sofar c.args.granted)

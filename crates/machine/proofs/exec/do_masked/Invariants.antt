@@ -1,10 +1,6 @@
-use Rattle.std.proofs.Common.{◌-◌, ◌≤◌}
 use Rattle.machine.specs.Masks.{RowSofar}
 use Rattle.machine.proofs.exec.do_masked.Given as goal
 
 abbrev pub invariant-loop-i : goal.invariant-loop-i
 invariant-loop-i l =
-    RowSofar l.z l.initial.lanes l.initial.cells l.initial.marks l.lanes l.cells l.marks l.row.group l.row.start l.row.mask l.work.stop l.work.todo l.xs l.ys l.i × (l.i ≤ 32)
-
-abbrev pub decreases-loop-i : goal.decreases-loop-i
-decreases-loop-i l = 32 - l.i
+    RowSofar l.z l.initial.lanes l.initial.cells l.initial.marks l.lanes l.cells l.marks l.row.group l.row.start l.row.mask l.work.stop l.work.todo l.xs l.ys l.i

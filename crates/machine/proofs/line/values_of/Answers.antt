@@ -3,8 +3,8 @@ use native.Mathlib.Nat.{sub-zero}
 use Rattle.machine.proofs.Working.{row_fits, worked}
 use Rattle.machine.proofs.line.values_of.Goals as goal
 
-pub eval_at-requires : goal.eval_at-requires
-eval_at-requires c =
+pub eval_row-requires : goal.eval_row-requires
+eval_row-requires c =
     let w : c.min-width.result ≡ min (c.args.z.lanes - c.args.row.start) 32 = c.min-width.ensures in
     let long = c.requires.long in
     let there = c.requires.inside.lane in
@@ -12,11 +12,11 @@ eval_at-requires c =
     (row_fits c.args.z c.requires.sized c.args.lanes.now c.args.row.group c.args.row.start _ c.requires.inside.group c.requires.inside.lane (omega arith) (omega arith) c.requires.fit)
 
 pub returns : goal.returns
-returns c to ready =
+returns c =
     let w : c.min-width.result ≡ min (c.args.z.lanes - c.args.row.start) 32 = c.min-width.ensures in
     let long = c.requires.long in
     let there = c.requires.inside.lane in
-    let kept = c.eval_at.auto.out in
-    let many : length c.eval_at.new.out ≡ c.min-width.result = simp (kept, length-take, sub-zero) (omega arith) in
-    worked c.args.z c.args.lanes.now c.args.row.group c.args.row.start c.min-width.result c.args.text.now c.args.at c.eval_at.new.out _ many
-    (λ i h l. omega arith) (simp c.own_base.ensures at (c.eval_at.ensures to ready))
+    let kept = c.eval_row.auto.out in
+    let many : length c.eval_row.new.out ≡ c.min-width.result = simp (kept, length-take, sub-zero) (omega arith) in
+    worked c.args.z c.args.lanes.now c.args.row.group c.args.row.start c.min-width.result c.args.text.now c.args.at c.eval_row.result c.eval_row.new.out _ many
+    (λ i h l. omega arith) (simp c.own_base.ensures at c.eval_row.ensures)

@@ -244,20 +244,22 @@ compiled ns p text words after room q r t z g made =
     let c : Codes (Named ns) text (length ns) (entry_at after) 0 p.body = subst (λ (o : ℕ). Codes (Named ns) text (length ns) (entry_at after) o p.body) z done.stands in
     let s : Codes (Named ns) text (length ns) (step_at after r.entry) 0 p.body =
     codes_same (Named ns) text (length ns) (entry_at after) (step_at after r.entry) 0 p.body (λ i lo hi. entry_of after r.entry i (omega arith)) c in
-    let last : step_at after r.entry (lines_of p.body) ≡ End = ap (step_at after r.entry) (sym n) ∙ last_end after r.entry in
-    (record {
-      lines = n;
-      few = omega (arith, body-few ns p text t);
-      stands = s;
-      coded =
-          subst (λ (l : ℕ). Coded (Named ns) text (length ns) l (left_at p.body) (step_at after r.entry)) (sym n)
-          (code-right ns text (step_at after r.entry) p.body s last);
-      nested = subst (λ (l : ℕ). Nested (step_at after r.entry) l) (sym n) (joins-right ns text (step_at after r.entry) p.body s);
-      behind = λ k h. made.moved.kept.same k (inr h);
-    }, record {
-      regions = subst (λ (l : ℕ). Regions (step_at after r.entry) l) (sym n) (codes-regions ns text (step_at after r.entry) p.body s last t.shallow);
-      starts = codes-start (Named ns) text (length ns) (step_at after r.entry) 0 p.body s (ap (step_at after r.entry) (omega arith) ∙ last);
-    })
+    let last : step_at after r.entry (lines_of p.body) ≡ End = ap (step_at after r.entry) (sym n) ∙ last_end after r.entry in (
+      record {
+        lines = n;
+        few = omega (arith, body-few ns p text t);
+        stands = s;
+        coded =
+            subst (λ (l : ℕ). Coded (Named ns) text (length ns) l (left_at p.body) (step_at after r.entry)) (sym n)
+            (code-right ns text (step_at after r.entry) p.body s last);
+        nested = subst (λ (l : ℕ). Nested (step_at after r.entry) l) (sym n) (joins-right ns text (step_at after r.entry) p.body s);
+        behind = λ k h. made.moved.kept.same k (inr h);
+      },
+      record {
+        regions = subst (λ (l : ℕ). Regions (step_at after r.entry) l) (sym n) (codes-regions ns text (step_at after r.entry) p.body s last t.shallow);
+        starts = codes-start (Named ns) text (length ns) (step_at after r.entry) 0 p.body s (ap (step_at after r.entry) (omega arith) ∙ last);
+      },
+    )
 
 -- A heading, and what is none.
 module _ (text : List ℕ) (p : Place) (r : Line) (scan : Scan text p.at r) where

@@ -6,7 +6,6 @@ use Rattle.grammar.specs.Stands.{Stands}
 use Rattle.code.specs.declared.step.Step.{Step}
 use Rattle.code.specs.declared.step.Step.TheVariants.{Put, Read, Write, Branch, Jump, Barrier, End}
 use Rattle.code.specs.Lines.{lines_of, else_lines_spec, left_at}
-use Rattle.code.specs.Settle.{Settles}
 pub use Rattle.code.specs.Settle.{is_jump}
 
 -- A branch stands at an if: where each of the two ways goes on, and where they join, which is behind the if.

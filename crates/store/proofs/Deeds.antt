@@ -44,58 +44,70 @@ module _ (z : Sizes) (ls cs : List ℕ) (g l stop : ℕ) (lent : Lent z ls cs) (
   Sent todo = SentTo todo (line_at z ls' g l) ⊎ (slot_of z ls' g 1 l ≡ 1)
 
   pub done-put : (k i c v : ℕ) → k < z.owns → ls' ≡ set (set ls (place_of z g (128 + k) l) c) (place_of z g 0 l) i → Did z ls cs ls' cs g l stop (Put k i) c v Quiet × Sent (Put k i)
-  done-put k i c v hk el =
-      (record {
-        lined = λ lines hs goes h. lined-twice z g l lines hl ls ls' (128 + k) c i lent.lanes_fit (omega arith) (λ e. omega arith) goes el h;
-        only = only-twice z ls cs g l lent hg hl ls' (128 + k) c i (omega arith) (inr (omega arith)) el;
-        placed = tt;
-        turned = λ at ends ready. turned-put z at ls cs g l lent hg hl ls' k i c v hk ready el;
-      }, inl (line-twice (128 + k) c i el))
+  done-put k i c v hk el = (
+    record {
+      lined = λ lines hs goes h. lined-twice z g l lines hl ls ls' (128 + k) c i lent.lanes_fit (omega arith) (λ e. omega arith) goes el h;
+      only = only-twice z ls cs g l lent hg hl ls' (128 + k) c i (omega arith) (inr (omega arith)) el;
+      placed = tt;
+      turned = λ at ends ready. turned-put z at ls cs g l lent hg hl ls' k i c v hk ready el;
+    },
+    inl (line-twice (128 + k) c i el),
+  )
 
   pub done-read : (f : Bool) (k i c v x : ℕ) (s : Seen) → k < z.owns → c < size z (whose f g) → x ≡ get_or cs (base z (whose f g) + c) 0 →
       ls' ≡ set (set ls (place_of z g (128 + k) l) x) (place_of z g 0 l) i → s.place ≡ whose f g → s.cell ≡ c → s.wrote ≡ false → Placed z (Touched s) →
       Did z ls cs ls' cs g l stop (Read f k i) c v (Touched s) × Sent (Read f k i)
-  done-read f k i c v x s hk hc ex el ep es ew placed =
-      (record {
-        lined = λ lines hs goes h. lined-twice z g l lines hl ls ls' (128 + k) x i lent.lanes_fit (omega arith) (λ e. omega arith) goes el h;
-        only = only-twice z ls cs g l lent hg hl ls' (128 + k) x i (omega arith) (inr (omega arith)) el;
-        placed = placed;
-        turned = λ at ends ready. turned-read z at ls cs g l lent hg hl ls' f k i c v x (Touched s) hk hc ex el (rw (ep, es, ew)) refl ready;
-      }, inl (line-twice (128 + k) x i el))
+  done-read f k i c v x s hk hc ex el ep es ew placed = (
+    record {
+      lined = λ lines hs goes h. lined-twice z g l lines hl ls ls' (128 + k) x i lent.lanes_fit (omega arith) (λ e. omega arith) goes el h;
+      only = only-twice z ls cs g l lent hg hl ls' (128 + k) x i (omega arith) (inr (omega arith)) el;
+      placed = placed;
+      turned = λ at ends ready. turned-read z at ls cs g l lent hg hl ls' f k i c v x (Touched s) hk hc ex el (rw (ep, es, ew)) refl ready;
+    },
+    inl (line-twice (128 + k) x i el),
+  )
 
   pub done-write : (cs' : List ℕ) (f : Bool) (i c v : ℕ) (s : Seen) → c < size z (whose f g) → cs' ≡ set cs (base z (whose f g) + c) v →
       ls' ≡ set ls (place_of z g 0 l) i → s.place ≡ whose f g → s.cell ≡ c → s.wrote ≡ true → Placed z (Touched s) → Did z ls cs ls' cs' g l stop (Write f i) c v (Touched s) × Sent (Write f i)
-  done-write cs' f i c v s hc em el ep es ew placed =
-      (record {
-        lined = λ lines hs goes h. rw el (lined-line z g l lines hl ls i lent.lanes_fit goes h);
-        only = line-only i el;
-        placed = placed;
-        turned = λ at ends ready. turned-write z at ls cs g l lent hg hl ls' cs' f i c v (Touched s) hc em el (rw (ep, es, ew)) refl ready;
-      }, inl (line-now ls i lent.lanes_fit el))
+  done-write cs' f i c v s hc em el ep es ew placed = (
+    record {
+      lined = λ lines hs goes h. rw el (lined-line z g l lines hl ls i lent.lanes_fit goes h);
+      only = line-only i el;
+      placed = placed;
+      turned = λ at ends ready. turned-write z at ls cs g l lent hg hl ls' cs' f i c v (Touched s) hc em el (rw (ep, es, ew)) refl ready;
+    },
+    inl (line-now ls i lent.lanes_fit el),
+  )
 
   pub done-branch : (y n c v i : ℕ) → i ≡ cond (eqb c 0) n y → ls' ≡ set ls (place_of z g 0 l) i → Did z ls cs ls' cs g l stop (Branch y n) c v Quiet × Sent (Branch y n)
-  done-branch y n c v i ei el =
-      (record {
-        lined = λ lines hs goes h. rw el (lined-line z g l lines hl ls i lent.lanes_fit (rw ei (chosen-lt lines (eqb c 0) n y goes.1 goes.0)) h);
-        only = line-only i el;
-        placed = tt;
-        turned = λ at ends ready. turned-branch z at ls cs g l lent hg hl ls' y n c v i ei el ready;
-      }, inl (one_of (eqb c 0) n y (line_at z ls' g l) (line-now ls i lent.lanes_fit el ∙ ei)))
+  done-branch y n c v i ei el = (
+    record {
+      lined = λ lines hs goes h. rw el (lined-line z g l lines hl ls i lent.lanes_fit (rw ei (chosen-lt lines (eqb c 0) n y goes.1 goes.0)) h);
+      only = line-only i el;
+      placed = tt;
+      turned = λ at ends ready. turned-branch z at ls cs g l lent hg hl ls' y n c v i ei el ready;
+    },
+    inl (one_of (eqb c 0) n y (line_at z ls' g l) (line-now ls i lent.lanes_fit el ∙ ei)),
+  )
 
   pub missed-read : (f : Bool) (k i c v : ℕ) → size z (whose f g) ≤ c → ls' ≡ set (set ls (place_of z g 1 l) 1) (place_of z g 0 l) stop → Did z ls cs ls' cs g l stop (Read f k i) c v Wrong × Sent (Read f k i)
-  missed-read f k i c v hc el =
-      (record {
-        lined = λ lines hs goes h. lined-twice z g l lines hl ls ls' 1 1 stop lent.lanes_fit (omega arith) (λ e. omega arith) hs el h;
-        only = only-twice z ls cs g l lent hg hl ls' 1 1 stop (omega arith) (inl (omega arith)) el;
-        placed = tt;
-        turned = λ at ends ready. wrong-read z at ls cs g l lent hg hl ls' f k i stop c v hc ends el ready;
-      }, inr (wrong-now el))
+  missed-read f k i c v hc el = (
+    record {
+      lined = λ lines hs goes h. lined-twice z g l lines hl ls ls' 1 1 stop lent.lanes_fit (omega arith) (λ e. omega arith) hs el h;
+      only = only-twice z ls cs g l lent hg hl ls' 1 1 stop (omega arith) (inl (omega arith)) el;
+      placed = tt;
+      turned = λ at ends ready. wrong-read z at ls cs g l lent hg hl ls' f k i stop c v hc ends el ready;
+    },
+    inr (wrong-now el),
+  )
 
   pub missed-write : (f : Bool) (i c v : ℕ) → size z (whose f g) ≤ c → ls' ≡ set (set ls (place_of z g 1 l) 1) (place_of z g 0 l) stop → Did z ls cs ls' cs g l stop (Write f i) c v Wrong × Sent (Write f i)
-  missed-write f i c v hc el =
-      (record {
-        lined = λ lines hs goes h. lined-twice z g l lines hl ls ls' 1 1 stop lent.lanes_fit (omega arith) (λ e. omega arith) hs el h;
-        only = only-twice z ls cs g l lent hg hl ls' 1 1 stop (omega arith) (inl (omega arith)) el;
-        placed = tt;
-        turned = λ at ends ready. wrong-write z at ls cs g l lent hg hl ls' f i stop c v hc ends el ready;
-      }, inr (wrong-now el))
+  missed-write f i c v hc el = (
+    record {
+      lined = λ lines hs goes h. lined-twice z g l lines hl ls ls' 1 1 stop lent.lanes_fit (omega arith) (λ e. omega arith) hs el h;
+      only = only-twice z ls cs g l lent hg hl ls' 1 1 stop (omega arith) (inl (omega arith)) el;
+      placed = tt;
+      turned = λ at ends ready. wrong-write z at ls cs g l lent hg hl ls' f i stop c v hc ends el ready;
+    },
+    inr (wrong-now el),
+  )

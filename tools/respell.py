@@ -85,7 +85,8 @@ def declared(root):
                 words.update(m[1].split())
     for path in files(root, ".rt"):
         words.update(re.findall(r"\bghost ([\w'-]+)\s*:", read(path)))
-    dashed = lambda names: {n for n in names if "-" in n}
+    # port.py writes an underscore into a type's name too
+    dashed = lambda names: {n for n in names if "-" in n or (n[0].isupper() and "_" in n)}
     return dashed(words), dashed(lemmas) - words
 
 
@@ -93,7 +94,7 @@ def turned(word):
     if word in OTHERWISE:
         return OTHERWISE[word]
     if word[0].isupper():
-        parts = word.split("-")
+        parts = re.split("[-_]", word)
         return parts[0] + "".join(p[:1].upper() + p[1:] for p in parts[1:])
     return word.replace("-", "_")
 
@@ -155,7 +156,7 @@ def respell_antt(text, rows, known, made):
             local[name] = joined(name.split("-"), known, "_".join)
     def token(m):
         name, at = m[0], m.start()
-        if "-" not in name:
+        if "-" not in name and name not in rows:
             return name
         before = text[:at]
         if made:

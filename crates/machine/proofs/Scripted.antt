@@ -11,7 +11,7 @@ use Rattle.grammar.proofs.Walks.{run-each, run-apart}
 use Rattle.machine.specs.declared.script.Written.{Written}
 use Rattle.machine.specs.declared.script.Written.TheVariants.{Of, Release}
 use Rattle.machine.specs.declared.script.Reading.{Reading}
-use Rattle.machine.specs.Script.{DigitsHere, BytesHere, Plain, OfHere, ReleaseHere, TurnsAt, Goes_on, TurnHere, TurnsHere}
+use Rattle.machine.specs.Script.{DigitsHere, BytesHere, Plain, OfHere, ReleaseHere, TurnsAt, GoesOn, TurnHere, TurnsHere}
 
 pub behind-some : (t w : List ℕ) (i j : ℕ) → Ok j ≡ bytes_at t w i → BytesHere t w i j
 behind-some t w i j e = bytes-sound t w i j (sym e)
@@ -111,7 +111,7 @@ pub of-cases : (t : List ℕ) (i a : ℕ) → BytesHere t (codes "of ") i a → 
 of-cases t i a p None f = no-of-turn t i a p f
 of-cases t i a p (Some x) h = of-turn t i a p x.turn x.next h
 
-release-turn : (t : List ℕ) (i a : ℕ) → BytesHere t (codes "release ") i a → (w : Written) (n : ℕ) → Goes_on (ReleaseHere t a) w n → TurnHere t i w n
+release-turn : (t : List ℕ) (i a : ℕ) → BytesHere t (codes "release ") i a → (w : Written) (n : ℕ) → GoesOn (ReleaseHere t a) w n → TurnHere t i w n
 release-turn t i a p (Of g l) n h = absurd h
 release-turn t i a p (Release g) n h = (a, p, h)
 
@@ -120,7 +120,7 @@ no-release-turn t i a p f (Of g l) n (b, q, h) = two-heads t i b a q p
 no-release-turn t i a p f (Release g) n (b, q, h) = f g n (subst (λ m. ReleaseHere t m g n) (bytes_same t (codes "release ") i b a q p) h)
 
 pub release-cases : (t : List ℕ) (i a : ℕ) → BytesHere t (codes "release ") i a → (r : Option Reading) →
-    MatchOption r ((g n : ℕ) → ReleaseHere t a g n → ⊥) (λ x. Goes_on (ReleaseHere t a) x.turn x.next) →
+    MatchOption r ((g n : ℕ) → ReleaseHere t a g n → ⊥) (λ x. GoesOn (ReleaseHere t a) x.turn x.next) →
     MatchOption r ((w : Written) (n : ℕ) → TurnHere t i w n → ⊥) (λ x. TurnHere t i x.turn x.next)
 release-cases t i a p None f = no-release-turn t i a p f
 release-cases t i a p (Some x) h = release-turn t i a p x.turn x.next h

@@ -37,9 +37,9 @@ abbrev pub TurnsAt : (ℕ → ℕ → ℕ → Type 0) → Written → ℕ → Ty
 TurnsAt P (Of g l) n = P g l n
 TurnsAt P (Release g) n = ⊥
 
-abbrev pub Goes_on : (ℕ → ℕ → Type 0) → Written → ℕ → Type 0
-Goes_on P (Of g l) n = ⊥
-Goes_on P (Release g) n = P g n
+abbrev pub GoesOn : (ℕ → ℕ → Type 0) → Written → ℕ → Type 0
+GoesOn P (Of g l) n = ⊥
+GoesOn P (Release g) n = P g n
 
 -- From byte i up to byte n stands the line of the turn.
 abbrev pub TurnHere : List ℕ → ℕ → Written → ℕ → Type 0

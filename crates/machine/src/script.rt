@@ -1,7 +1,7 @@
 // Turns that are written down, one on a line.
 ghost use Rattle.std.specs.Prelude.{◌≡◌, ℕ, MatchOption};
 ghost use Rattle.machine.specs.declared.script.Written.{Written};
-ghost use Rattle.machine.specs.Script.{DigitsHere, BytesHere, Plain, OfHere, ReleaseHere, TurnsAt, Goes_on, TurnHere, ScriptRead};
+ghost use Rattle.machine.specs.Script.{DigitsHere, BytesHere, Plain, OfHere, ReleaseHere, TurnsAt, GoesOn, TurnHere, ScriptRead};
 
 use grammar::numbers::read_number;
 use grammar::tokens::expect;
@@ -75,7 +75,7 @@ fn lane_turn(bytes: &[u8], i: usize) -> Option<Reading>
 
 // What comes behind "release ".
 fn group_turn(bytes: &[u8], i: usize) -> Option<Reading>
-    ensures { MatchOption result ((g n : ℕ) → ReleaseHere bytes.now i g n → ⊥) (λ x. Goes_on (ReleaseHere bytes.now i) x.turn x.next) }
+    ensures { MatchOption result ((g n : ℕ) → ReleaseHere bytes.now i g n → ⊥) (λ x. GoesOn (ReleaseHere bytes.now i) x.turn x.next) }
 {
     let group = small_at(bytes, i)?;
     let next = behind(bytes, group.end, b"\n")?;

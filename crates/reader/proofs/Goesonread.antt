@@ -4,7 +4,7 @@ use Rattle.std.proofs.lemmas.List.{get_or_append_left, get_or-take, length-take-
 use Rattle.grammar.specs.declared.refusals.Refusal.{Refusal}
 use Rattle.grammar.specs.declared.refusals.Refusal.TheVariants.{Shape as No-text}
 use Rattle.grammar.proofs.Goeson.{Agree}
-use Rattle.reader.specs.Goeson.{Goes_on}
+use Rattle.reader.specs.Goeson.{GoesOn}
 use Rattle.reader.specs.Texts.{read_at}
 use Rattle.reader.specs.declared.texts.Shape.{Shape}
 use Rattle.reader.proofs.Goesonheads.{read-viable}
@@ -21,7 +21,7 @@ same_bytes text z p h =
       second = omega (arith, length-append (take (p + 1) text) z);
     }
 
-pub goes_on : (text : List ℕ) (r : Result Shape Refusal) → r ≡ read_at text → (p : ℕ) → r ≡ Err (No-text p) → Goes_on text p
+pub goes_on : (text : List ℕ) (r : Result Shape Refusal) → r ≡ read_at text → (p : ℕ) → r ≡ Err (No-text p) → GoesOn text p
 goes_on text r w p e =
     let f : read_at text ≡ Err (No-text p) = sym w ∙ e in
     let b = read-viable text p f in

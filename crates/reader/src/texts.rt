@@ -2,7 +2,7 @@
 ghost use Rattle.std.specs.Prelude.{◌≡◌, ℕ, List, IfOk, Err};
 ghost use Rattle.grammar.specs.Names.{NamesIn};
 ghost use Rattle.grammar.specs.Walk.{place_in};
-ghost use Rattle.reader.specs.Goeson.{Goes_on};
+ghost use Rattle.reader.specs.Goeson.{GoesOn};
 ghost use Rattle.reader.specs.Texts.{head_lines_spec, whole, read_at, ReadAs, EveryRead};
 
 use crate::blocks::{Ending, Stop, block};
@@ -45,7 +45,7 @@ pub fn read(text: &[u8]) -> Result<Shape, Refusal>
     ensures walk { result ≡ read_at text.now }
     ensures taken { IfOk result (λ s. ReadAs text.now s) }
     ensures every { EveryRead text.now result }
-    ensures shape { (p : ℕ) → result ≡ Err (Refusal.Shape p) → Goes_on text.now p }
+    ensures shape { (p : ℕ) → result ≡ Err (Refusal.Shape p) → GoesOn text.now p }
 {
     let own = own_line(text)?;
     let cells = cells_line(text, own.next)?;

@@ -36,9 +36,9 @@ byte_of Less = 60
 byte_of Same = 61
 
 -- The operator that a byte is, if it is one.
-abbrev pub Op_at : ℕ → Option Op → Type 0
-Op_at b (Some op) = byte_of op ≡ b
-Op_at b None = (op : Op) → byte_of op ≢ b
+abbrev pub OpAt : ℕ → Option Op → Type 0
+OpAt b (Some op) = byte_of op ≡ b
+OpAt b None = (op : Op) → byte_of op ≢ b
 
 -- Each of the numbers z is x op y, as far as both go; the others are those of x.
 pub record Applied (op : Op) (x y z : List ℕ) : Type 0 where

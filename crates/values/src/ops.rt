@@ -1,7 +1,7 @@
 // The operators, on numbers.
 ghost use Rattle.std.specs.Prelude.{◌≡◌};
 ghost use Rattle.lanes.specs.Step.{sum_of, difference_of, product_of, quotient_of, remainder_of, less_of, same_of};
-ghost use Rattle.values.specs.Ops.{op_of, Op_at};
+ghost use Rattle.values.specs.Ops.{op_of, OpAt};
 
 #[derive(Clone, Copy)]
 pub enum Op {
@@ -72,7 +72,7 @@ pub fn apply(op: Op, a: u32, b: u32) -> u32
 
 // The operator that a byte is.
 pub fn op_from(b: u8) -> Option<Op>
-    ensures { Op_at b result }
+    ensures { OpAt b result }
 {
     match b {
         b'+' => Some(Op::Plus),

@@ -3,9 +3,11 @@
 
 pub mod spot;
 
-ghost use Rattle.std.specs.Prelude.{◌^◌, ◌<◌, ◌≤◌, IfSome, IfOk, vec_len};
+ghost use Rattle.std.specs.Prelude.{◌≡◌, ◌^◌, ◌<◌, ◌≤◌, IfSome, IfOk, OnOk, OnErr, vec_len};
+ghost use Rattle.std.specs.Process.{exit_status};
 
 use std::io::Read;
+use std::process::ExitCode;
 use std::{env, fs, io};
 
 // The words behind the program's name. None: it was asked for help, and its usage stands on standard output.
@@ -52,4 +54,15 @@ pub fn read_stdin(rt: &HostRuntime) -> io::Result<Vec<u8>>
     let mut bytes = Vec::new(rt.alloc());
     rt.stdin().read_to_end(&mut bytes)?;
     Ok(bytes)
+}
+
+// The status of a program that has said already why it ends: 1 for an error, else 0. Nothing more is printed.
+pub fn status(done: io::Result<()>) -> ExitCode
+    ensures ok { OnOk done (exit_status result ≡ 0) }
+    ensures err { OnErr done (exit_status result ≡ 1) }
+{
+    match done {
+        Ok(()) => ExitCode::from(0),
+        Err(_) => ExitCode::from(1),
+    }
 }

@@ -5,6 +5,7 @@ use cells::scan::Unread;
 use cells::text::{lines_before, read_cells, word_at};
 use formats::packed::write_field;
 use std::io;
+use std::process::ExitCode;
 
 const USAGE: &str =
     "usage: pack GROUPS LANES STEPS [FILE]\nwrites the bytes of a field: cells as they are printed, or as decimal numbers, from the file or standard input";
@@ -69,9 +70,13 @@ fn pack(rt: &HostRuntime, words: &[String]) -> io::Result<()> {
     }
 }
 
-fn main(rt: HostRuntime) -> io::Result<()> {
-    match cli::words(&rt, USAGE, 3, 4)? {
-        Some(words) => pack(&rt, words.as_slice()),
+fn packed(rt: &HostRuntime) -> io::Result<()> {
+    match cli::words(rt, USAGE, 3, 4)? {
+        Some(words) => pack(rt, words.as_slice()),
         None => Ok(()),
     }
+}
+
+fn main(rt: HostRuntime) -> ExitCode {
+    cli::status(packed(&rt))
 }

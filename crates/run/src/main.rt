@@ -2,15 +2,20 @@
 #![tactic(auto)]
 
 use std::io;
+use std::process::ExitCode;
 
 const USAGE: &str =
     "usage: run PROGRAM FIELD\nruns the program on the field's bytes, and prints the field, a race, a wrong lane, a stuck group, or too long";
 
-fn main(rt: HostRuntime) -> io::Result<()> {
-    let Some(words) = cli::words(&rt, USAGE, 2, 2)? else {
+fn shown(rt: &HostRuntime) -> io::Result<()> {
+    let Some(words) = cli::words(rt, USAGE, 2, 2)? else {
         return Ok(());
     };
-    let text = cli::read(&rt, words[0].as_str())?;
-    let bytes = cli::read(&rt, words[1].as_str())?;
-    show::run_shown(&rt, text.as_slice(), bytes.as_slice())
+    let text = cli::read(rt, words[0].as_str())?;
+    let bytes = cli::read(rt, words[1].as_str())?;
+    show::run_shown(rt, text.as_slice(), bytes.as_slice())
+}
+
+fn main(rt: HostRuntime) -> ExitCode {
+    cli::status(shown(&rt))
 }

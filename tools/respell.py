@@ -24,6 +24,8 @@ OTHERWISE = {
         "leaf-of line-end must-end must-loop phase-of plan-of put-row stance-of text-line touch-of waiting-of with-expr with-lanes within-line"
     ).split()
 } | {"read-field": "read-field", "count-end": "count-end", "named-line": "named-line"}
+# As fields of records these keep the plain spelling: behind a dot, at their declaration, and in a record.
+FIELDS = {"cells-line", "is-own", "can-step"}
 # Words that the check puts into the names of goals and places.
 MADE = set(
     "in_err in_ok in_default overflow_add overflow_sub overflow_mul overflow_cast overflow_shl overflow_shr overflow_neg overflow_div overflow_rem invariant_of "
@@ -147,6 +149,15 @@ def code_names(root):
     return names, items
 
 
+def is_field(name, before, behind, text):
+    if before.endswith("."):
+        return True
+    if behind.startswith(" = "):
+        return bool(re.search(r"(?:[{;] |\n +)$", before))
+    # a lemma of that name has clauses behind its declaration
+    return behind.startswith(" : ") and bool(re.search(r"\n +pub $", before)) and not re.search(r"\n +%s [^:\n]*=" % name, text)
+
+
 def respell_antt(text, rows, known, made):
     """One file of definitions or proofs."""
     local = {}
@@ -164,6 +175,8 @@ def respell_antt(text, rows, known, made):
                 return joined(name.split("-"), known, "_".join)
             if name in local and name not in rows:
                 return local[name]
+        if name in FIELDS and is_field(name, before, text[m.end() :], text):
+            return name.replace("-", "_")
         if name in rows:
             return rows[name]
         return name

@@ -96,7 +96,7 @@ module _ (ns : List (List ℕ)) (text : List ℕ) (names : Names ns text) (at : 
       let w : between at scan.stop text ≡ [] = word_at text [] z at scan.stop scan.ends h each_none (ap (λ s. word_byte (get_or s 0 0)) q) in
       let k : scan.word ≡ None = empty-word scan.word _ w scan.is_word in
       let by : NamedScan text at scan.stop r = subst (λ (w : Option Keyword). ScanBy text at scan.stop w r) k scan.by in
-      nothing_named f v scan.stop by.own a (subst (λ (u : List ℕ). PlaceOf ns u by.own) w (by.is_own_spec ns names.there)) by.by
+      nothing_named f v scan.stop by.own a (subst (λ (u : List ℕ). PlaceOf ns u by.own) w (by.is_own ns names.there)) by.by
   halting f v a b c h (at_else w q) = ap f (keyword-scan text (10 ∷ w) at r Else scan (h ∙ q) refl).2 ∙ b
   halting f v a b c h (at_end w q) = ap f (keyword-scan text (10 ∷ w) at r End scan (h ∙ q) refl).2 ∙ c
 

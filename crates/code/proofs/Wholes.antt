@@ -151,7 +151,7 @@ module _ (ns : List (List ℕ)) where
           missing = λ n q.
               let first : get_or text 0 0 ≡ 111 = sym (get_or-take 4 text 0 0 (omega arith)) ∙ ap (λ l. get_or l 0 0) q in
               elim s.own_line [
-                | inl h ↦ cells-first p.shared p.body s.cells_part s.body_part s.cells_line_spec s.body n (sym (ap (λ l. get_or l 0 0) (s.whole ∙ ap (λ u. u ++ (s.cells_part ++ s.body_part)) h.1)) ∙ first)
+                | inl h ↦ cells-first p.shared p.body s.cells_part s.body_part s.cells_line s.body n (sym (ap (λ l. get_or l 0 0) (s.whole ∙ ap (λ u. u ++ (s.cells_part ++ s.body_part)) h.1)) ∙ first)
                 | inr h ↦ absurd (h.0 n)
               ];
         };
@@ -189,10 +189,10 @@ module _ (ns : List (List ℕ)) where
     past-cells : (q r : Place) → Skipped text q r → drop q.at text ≡ t.spelled.cells_part ++ the-body → drop r.at text ≡ the-body
     unfolding each_byte
     past-cells q r s h =
-        elim t.spelled.cells_line_spec [
+        elim t.spelled.cells_line [
           | inl y ↦ stay q r s (h ∙ ap (λ u. u ++ the-body) y.1)
           | inr y ↦
-              s.cells_line_spec (32 ∷ y.0) the-body (h ∙ ap (λ u. u ++ the-body) y.2 ∙ ap (λ u. codes "cells " ++ u) (append_assoc y.0 (10 ∷ []) the-body)) refl
+              s.cells_line (32 ∷ y.0) the-body (h ∙ ap (λ u. u ++ the-body) y.2 ∙ ap (λ u. codes "cells " ++ u) (append_assoc y.0 (10 ∷ []) the-body)) refl
               (each_append in_line (32 ∷ []) y.0 refl (each_weaken word_byte in_line word-in_line y.0 (each_weaken digit word_byte digit-word y.0 y.1.bytes)))
         ]
 
@@ -270,7 +270,7 @@ module _ (text : List ℕ) (p : Place) (r : Line) (scan : Scan text p.at r) wher
         entry = refl;
         line = inl refl;
         own_line = λ u z e a l. absurd (h (keyword-scan text (u ++ (10 ∷ z)) p.at r Own scan e a).2);
-        cells_line_spec = λ u z e a l. absurd (h (keyword-scan text (u ++ (10 ∷ z)) p.at r Cells scan e a).2);
+        cells_line = λ u z e a l. absurd (h (keyword-scan text (u ++ (10 ∷ z)) p.at r Cells scan e a).2);
         stays = λ ns b z n l e. refl;
       }
 
@@ -282,7 +282,7 @@ module _ (text : List ℕ) (p : Place) (r : Line) (scan : Scan text p.at r) wher
         entry = e;
         line = inr up;
         own_line = λ u z d a l. next_is text (codes "own" ++ u) z p.at q.at n d (each_append in_line (codes "own") u refl l);
-        cells_line_spec = λ u z d a l. next_is text (codes "cells" ++ u) z p.at q.at n d (each_append in_line (codes "cells") u refl l);
+        cells_line = λ u z d a l. next_is text (codes "cells" ++ u) z p.at q.at n d (each_append in_line (codes "cells") u refl l);
         stays = λ ns b z names l halts.
             elim (told ns text names p.at r scan z b l halts) [
               | halted y s k ↦ absurd (both_ways (heading r) k (ap heading h))

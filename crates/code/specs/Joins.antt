@@ -66,8 +66,8 @@ JoinsAt code b r = Meets code (code b) r
 
 -- Branches and joins as lanes come by them, which stand at no jump. A branch has one join. A lane that looks at the branch stands
 -- in it then or at its join, and one that stands in it comes to the join or stays in it; so does the join of a branch that stands
--- in another. A join is not in its branch, and no lane ends in a branch. The level of a branch is how many it stands in, itself
--- counted: those of the branches that a lane stands in are all different, and at most 16.
+-- in another. A join is not in its branch, and no lane ends in a branch. Branches have levels from 1 to 16 that rise inward: so the
+-- levels of the branches that a lane stands in are all different, and these are at most 16.
 pub record Regions (code : ℕ → Step) (lines : ℕ) : Type 0 where
   pub has_join : (b : ℕ) → b ≤ lines → is_branch (code b) ≡ true → (r : ℕ) × JoinsAt code b r × (r ≤ lines)
   pub one_join : (b r s : ℕ) → JoinsAt code b r → JoinsAt code b s → r ≡ s

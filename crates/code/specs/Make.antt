@@ -176,7 +176,7 @@ pub record Skipped (text : List ℕ) (p r : Place) : Type 0 where
   pub entry : r.entry ≡ p.entry
   pub line : (r ≡ p) ⊎ (p.line < 4294967295 → r.line ≡ suc p.line)
   pub own_line : (u z : List ℕ) → drop p.at text ≡ codes "own" ++ (u ++ (10 ∷ z)) → Apart (u ++ (10 ∷ z)) → each_byte in_line u ≡ true → drop r.at text ≡ z
-  pub cells_line_spec : (u z : List ℕ) → drop p.at text ≡ codes "cells" ++ (u ++ (10 ∷ z)) → Apart (u ++ (10 ∷ z)) → each_byte in_line u ≡ true → drop r.at text ≡ z
+  pub cells_line : (u z : List ℕ) → drop p.at text ≡ codes "cells" ++ (u ++ (10 ∷ z)) → Apart (u ++ (10 ∷ z)) → each_byte in_line u ≡ true → drop r.at text ≡ z
   pub stays : (ns : List (List ℕ)) (b : Body) (z : List ℕ) → Names ns text → Lies ns text p.at b z → Halts z → r ≡ p
 
 -- The text was made into r entries, which stand for the program's body; so they do at each entry what is left there,

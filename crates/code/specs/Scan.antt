@@ -61,7 +61,7 @@ NamedBy text e (Some k) r = e + 3 ≤ length text → ValueScan text k (e + 3) r
 -- A line that begins with a name, which ends at byte e.
 pub record NamedScan (text : List ℕ) (at e : ℕ) (r : Line) : Type 0 where
   pub own : Option ℕ
-  pub is_own_spec : (ns : List (List ℕ)) → NamesIn ns text → PlaceOf ns (between at e text) own
+  pub is_own : (ns : List (List ℕ)) → NamesIn ns text → PlaceOf ns (between at e text) own
   pub by : NamedBy text e own r
 
 -- A line that writes a cell, whose place stands at byte x.

@@ -37,7 +37,7 @@ spelled-names ns p text s few =
       missing = λ z q.
           elim s.own_line [
             | inl x ↦
-                cells-begin ns z p s.cells_part s.body_part s.cells_line_spec s.body
+                cells-begin ns z p s.cells_part s.body_part s.cells_line s.body
                 (sym (ap (λ w. get_or w 0 0) (s.whole ∙ ap (λ w. w ++ (s.cells_part ++ s.body_part)) x.1)) ∙ sym (get_or-take 4 text 0 0 (omega arith)) ∙ ap (λ w. get_or w 0 0) q)
             | inr x ↦ x.0 z
           ];

@@ -111,7 +111,7 @@ pub record Spelled (N : ℕ → List ℕ → Type 0) (ns : List (List ℕ)) (p :
   pub whole : text ≡ own_part ++ (cells_part ++ body_part)
   pub owned : p.owns ≡ length ns
   pub own_line : OwnLine ns own_part
-  pub cells_line_spec : CellsLine p.shared cells_part
+  pub cells_line : CellsLine p.shared cells_part
   pub names : (k : ℕ) → k < length ns → IsName (slice_index_or ns k [])
   pub body : SpellsBody N p.body body_part
 

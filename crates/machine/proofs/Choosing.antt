@@ -49,7 +49,7 @@ module _ (ns : List (List ℕ)) (text steps-words : List ℕ) (lines : ℕ) (z :
       steps-append z.lanes d ts (row_turns g start mask 32)
       ∙ (ap (λ (k : ℕ). k + steps z.lanes (turns z.lanes d ts) (row_turns g start mask 32)) stands.has_steps
       ∙ ap (λ (k : ℕ). done + k)
-      (row-steps z.lanes (turns z.lanes d ts) g start mask 32 (λ j h e. ap (λ (x : Grid). can z.lanes x (of g (start + j))) (sym stands.sofar.grid) ∙ can-row.can_step_spec j h e)))
+      (row-steps z.lanes (turns z.lanes d ts) g start mask 32 (λ j h e. ap (λ (x : Grid). can z.lanes x (of g (start + j))) (sym stands.sofar.grid) ∙ can-row.can_step j h e)))
 
   pub shows-long : (granted g start mask : ℕ) → RowCan z at ls cs g start mask → done ≤ granted → granted - done < lanes_in mask 32 → Shows granted z.lanes d (ts ++ row_turns g start mask 32) too_long
   unfolding Shows

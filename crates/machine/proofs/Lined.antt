@@ -57,7 +57,7 @@ module _ (z : Sizes) (at : ℕ → Body) (words : List ℕ) (lines : ℕ) (ls cs
   can-part l e = (and_parts _ _ e).1
 
   steps_on : (i : ℕ) → i < 32 → on mask i ≡ true → stepping (at entry) ≡ true
-  steps_on i h o = subst (λ (b : Body). stepping b ≡ true) (left_is i h o) (can-part (start + i) (m.can_step_spec i h o))
+  steps_on i h o = subst (λ (b : Body). stepping b ≡ true) (left_is i h o) (can-part (start + i) (m.can_step i h o))
 
   none-if : ((i : ℕ) → i < 32 → on mask i ≡ true → ⊥) → (i : ℕ) → i < 32 → on mask i ≡ false
   none-if never i h = by (cases_Bool (on mask i))

@@ -34,7 +34,7 @@ one-can z at ls cs g l mask one hg hl could = rw one (record {
   lowest_few = omega arith;
   lowest_on = refl;
   one_line = λ i _ e. rw (one_on i e);
-  can_step_spec = λ i _ e. rw (one_on i e, add-zero l) could;
+  can_step = λ i _ e. rw (one_on i e, add-zero l) could;
 })
 
 pub one-passed : (n : ℕ) (d : Grid) (g l mask : ℕ) → mask ≡ 1 → Passed n d g l → Passed n (turns n d (row_turns g l mask 32)) g l

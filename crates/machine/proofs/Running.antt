@@ -40,7 +40,7 @@ module _ (z : Sizes) (at : ℕ → Body) (words text : List ℕ) (lines : ℕ) (
         stands = a.here;
         within = a.within;
         no_jump = λ j. both_ways _ a.no_jump j;
-        can_step_spec = λ i h o. subst (λ (d : Grid). can z.lanes d (of g (start + i)) ≡ true) (sym (a.grid cs)) (c.can_step_spec i h o);
+        can_step = λ i h o. subst (λ (d : Grid). can z.lanes d (of g (start + i)) ≡ true) (sym (a.grid cs)) (c.can_step i h o);
       }
 
   pub ran : (ls'' cs'' ks'' : List ℕ) → LineOutcome z at (suc lines) ls' cs ks ls'' cs'' ks'' g start mask r → RowRan z at (suc lines) ls cs ks ls'' cs'' ks'' g start mask r

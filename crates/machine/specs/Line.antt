@@ -55,7 +55,7 @@ pub record Masked (z : Sizes) (at : ℕ → Body) (steps : List ℕ) (lines : �
   pub stands : (i : ℕ) → i < 32 → on mask i ≡ true → line_at z ls g (first + i) ≡ entry
   pub within : entry ≤ lines
   pub no_jump : is_jump (step_at steps lines entry) ≡ true → ⊥
-  pub can_step_spec : (i : ℕ) → i < 32 → on mask i ≡ true → can z.lanes (grid_of z at ls cs) (of g (first + i)) ≡ true
+  pub can_step : (i : ℕ) → i < 32 → on mask i ≡ true → can z.lanes (grid_of z at ls cs) (of g (first + i)) ≡ true
 
 -- What came of a line that the lanes of a mask did, lowest first, from where the machine was with ts: us is its row of turns now. If all
 -- is well, all of them did it; else the last turn of us shows what is told.

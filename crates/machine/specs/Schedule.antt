@@ -24,7 +24,7 @@ pub record RowCan (z : Sizes) (at : ℕ → Body) (ls cs : List ℕ) (g start ma
   pub lowest_few : lowest < 32
   pub lowest_on : on mask lowest ≡ true
   pub one_line : (i : ℕ) → i < 32 → on mask i ≡ true → line_at z ls g (start + i) ≡ line_at z ls g (start + lowest)
-  pub can_step_spec : (i : ℕ) → i < 32 → on mask i ≡ true → can z.lanes (grid_of z at ls cs) (of g (start + i)) ≡ true
+  pub can_step : (i : ℕ) → i < 32 → on mask i ≡ true → can z.lanes (grid_of z at ls cs) (of g (start + i)) ≡ true
 
 -- What is named can be done.
 abbrev pub CanDo : Sizes → (ℕ → Body) → List ℕ → List ℕ → Choice → Type 0

@@ -149,7 +149,7 @@ module _ (text : List ℕ) where
   pub record Rest (t : List ℕ) : Type 0 where
     pub shared : ℕ
     pub cells : List ℕ
-    pub cells_line_spec : CellsLine shared cells
+    pub cells_line : CellsLine shared cells
     pub lines : List ℕ
     pub body : Body
     pub spells : SpellsBody AnyName body lines
@@ -180,7 +180,7 @@ module _ (text : List ℕ) where
             whole = ap (λ t. t ++ f.more) q ∙ append_assoc own u f.more ∙ ap (λ t. own ++ t) f.is.is;
             owned = refl;
             own_line = l;
-            cells_line_spec = f.is.cells_line_spec;
+            cells_line = f.is.cells_line;
             names = names;
             body = f.is.spells;
           };
@@ -208,7 +208,7 @@ module _ (text : List ℕ) where
             whole = ap (λ t. t ++ f.more) q ∙ ap (λ t. codes "own" ++ t) f.is.tail.is ∙ sym (append-nil (codes "own" ++ (spaced ns ++ (10 ∷ []))));
             owned = refl;
             own_line = inr (f.is.some, refl);
-            cells_line_spec = inl (refl, refl);
+            cells_line = inl (refl, refl);
             names = f.is.tail.each;
             body = refl;
           };
@@ -328,7 +328,7 @@ module _ (text : List ℕ) where
 
   cells_rest : (t : List ℕ) → CellsText t → Rest t
   unfolding SpellsBody
-  cells_rest t c = record { shared = c.many; cells = t; cells_line_spec = inr (c.number, c.counts, c.is); lines = []; body = end; spells = refl; is = sym (append-nil t) }
+  cells_rest t c = record { shared = c.many; cells = t; cells_line = inr (c.number, c.counts, c.is); lines = []; body = end; spells = refl; is = sym (append-nil t) }
 
   cells-within : (i : ℕ) (h : Head) → cells_at text i ≡ Ok h → i ≤ length text → h.next ≤ length text
   unfolding cells_at
@@ -361,7 +361,7 @@ module _ (text : List ℕ) where
   CelledThen = Both (λ c. (s : ℕ) × CellsLine s c) Bodied
 
   celled-rest : (t : List ℕ) → CelledThen t → Rest t
-  celled-rest t b = record { shared = b.one.0; cells = b.left; cells_line_spec = b.one.1; lines = b.right; body = b.two.lines; spells = b.two.spells; is = b.is }
+  celled-rest t b = record { shared = b.one.0; cells = b.left; cells_line = b.one.1; lines = b.right; body = b.two.lines; spells = b.two.spells; is = b.is }
 
   got-cells : (i : ℕ) (h : Head) → Celled text i h → i ≤ length text → h.next ≤ length text → Got text (λ c. (s : ℕ) × CellsLine s c) i h.next
   got-cells i h c l m =

@@ -170,8 +170,8 @@ module _ (text : List ℕ) where
   read_right ns p s =
       let z : List ℕ = s.cells_part ++ s.body_part in
       good-then (own_at text) _ (Then z) Any
-      (own-right ns s.own_part z s.own_line s.names s.whole (λ e. rest_lead p.shared s.cells_part s.body_part p.body 0 s.cells_line_spec s.body (no_own ns s.own_part z e s.own_line s.whole)))
-      (λ f ef. good-then (cells_at text f.next) _ (CelledTo s.body_part) Any (cells_right p.shared s.cells_part s.body_part p.body f.next s.cells_line_spec s.body ef)
+      (own-right ns s.own_part z s.own_line s.names s.whole (λ e. rest_lead p.shared s.cells_part s.body_part p.body 0 s.cells_line s.body (no_own ns s.own_part z e s.own_line s.whole)))
+      (λ f ef. good-then (cells_at text f.next) _ (CelledTo s.body_part) Any (cells_right p.shared s.cells_part s.body_part p.body f.next s.cells_line s.body ef)
       (λ h eh. good-then (block_at (place_in f.names) text 1025 16 (1024 - head_lines_spec f.next h.next) h.next false) _ (Stopped (place_in f.names) text Text [] (1024 - head_lines_spec f.next h.next) p.body false) Any
       (body_reads (place_in f.names) text p.body s.body_part s.body Text [] [] 1025 16 (1024 - head_lines_spec f.next h.next) h.next false (refl, refl) (eh ∙ sym (append-nil s.body_part)) (omega arith))
       (λ x k. rw k.ending_is (good-ok _ Any tt))))

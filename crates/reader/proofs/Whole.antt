@@ -193,7 +193,7 @@ read_made text f h s w c g b =
       whole = w.here ∙ ap (λ t. w.part ++ t) c.here;
       owned = refl;
       own_line = w.line;
-      cells_line_spec = c.line;
+      cells_line = c.line;
       names = w.names_in.names;
       body = subst (SpellsBody (Named ns) x.body) (sym body) x.spells;
     } in

@@ -185,7 +185,7 @@ module _ (text : List ℕ) where
     owns =
         let s = t.spelled in
         own_done ns s.own_part (s.cells_part ++ s.body_part) s.own_line s.names t.distinct t.few_names s.whole
-        (λ e. rest_lead (Named ns) is_named p.shared s.cells_part s.body_part p.body 0 s.cells_line_spec s.body (no_own_line ns s.own_part (s.cells_part ++ s.body_part) e s.own_line s.whole))
+        (λ e. rest_lead (Named ns) is_named p.shared s.cells_part s.body_part p.body 0 s.cells_line s.body (no_own_line ns s.own_part (s.cells_part ++ s.body_part) e s.own_line s.whole))
 
     owned : Owned text (record { names = ns; next = owns.next })
     owned = own-sound text (record { names = ns; next = owns.next }) owns.is
@@ -193,7 +193,7 @@ module _ (text : List ℕ) where
     cells : CellsRead (cells_at text owns.next) p.shared t.spelled.body_part
     cells =
         let s = t.spelled in
-        cells_done p.shared s.cells_part s.body_part owns.next s.cells_line_spec t.few_cells
+        cells_done p.shared s.cells_part s.body_part owns.next s.cells_line t.few_cells
         (λ e. (body_lead (Named ns) is_named p.body owns.next s.body_part s.body (owns.rest ∙ ap (λ m. m ++ s.body_part) e)).no_cells) owns.rest (sym owned.short ∙ t.short)
 
     celled : Celled text owns.next (record { many = p.shared; next = cells.next })

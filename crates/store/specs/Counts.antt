@@ -16,7 +16,7 @@ pub record Counted (z : Sizes) (at : ℕ → Body) (ls : List ℕ) (g : ℕ) : T
   pub waiting : waiting_of_spec z ls g ≡ how_many (λ l. at_barrier (at (line_at z ls g l))) z.lanes
   pub ended : ended_of z ls g ≡ how_many (λ l. body.ended (at (line_at z ls g l))) z.lanes
 
--- The two counts of group g are w and e, and all else is as it was, the grid too.
+-- The two counts of group g are w and e, and all else but the slots of these counts is as it was, the grid too.
 pub record Tallied (z : Sizes) (g w e : ℕ) (ls ls' : List ℕ) : Type 0 where
   pub waiting : waiting_of_spec z ls' g ≡ w
   pub ended : ended_of z ls' g ≡ e

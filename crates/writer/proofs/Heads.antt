@@ -121,10 +121,10 @@ module _ (ns : List (List ℕ)) (p : Program) (text : List ℕ) (s : Spelled (Na
   lead = body_lead (Named ns) (named-is ns s.names) p.body s.body_part s.body
 
   own_read : (n : ℕ) → length ns < n → own_of n text ≡ (ns, s.cells_part ++ s.body_part)
-  own_read n h = rw s.whole (own_back ns s.own_part (s.cells_part ++ s.body_part) n s.own_line s.names h (no-own_cells p.shared s.cells_part s.body_part s.cells_line_spec lead))
+  own_read n h = rw s.whole (own_back ns s.own_part (s.cells_part ++ s.body_part) n s.own_line s.names h (no-own_cells p.shared s.cells_part s.body_part s.cells_line lead))
 
   cells_read : cells_of (s.cells_part ++ s.body_part) ≡ (p.shared, s.body_part)
-  cells_read = cells-back p.shared s.cells_part s.body_part s.cells_line_spec lead
+  cells_read = cells-back p.shared s.cells_part s.body_part s.cells_line lead
 
 names_same : (ns ms : List (List ℕ)) (p q : Program) (text : List ℕ) → Spelled (Named ns) ns p text → Spelled (Named ms) ms q text → ns ≡ ms
 names_same ns ms p q text s t = ap (λ (x : List (List ℕ) × List ℕ). x.0) (sym (own_read ns p text s (suc (length ns + length ms)) (omega arith)) ∙ own_read ms q text t (suc (length ns + length ms)) (omega arith))

@@ -159,7 +159,7 @@ shrunk-anew ns p text c f s =
     no_longer text (own_line ns ++ (cells_line_spec p.shared ++ written_body ns p.body))
     (rw s.whole
     (shrinks-both s.own_part (own_line ns) _ _ (shrink-own ns s.names s.own_part s.own_line)
-    (shrinks-both s.cells_part (cells_line_spec p.shared) _ _ (shrink-cells ns s.names p.shared s.cells_part c s.cells_line_spec) (shrink-body ns s.names p.body s.body_part (rw s.owned at f) s.body))))
+    (shrinks-both s.cells_part (cells_line_spec p.shared) _ _ (shrink-cells ns s.names p.shared s.cells_part c s.cells_line) (shrink-body ns s.names p.body s.body_part (rw s.owned at f) s.body))))
 
 pub anew : Anew
 anew ns p text t =

@@ -284,5 +284,5 @@ renewed ns p text c f s =
     let fits : BodyFits (length ns) p.body = rw s.owned at f in
     rw s.whole
     (own-copied ns s.own_part (s.cells_part ++ s.body_part) s.names s.own_line
-    ∙ ap (λ (y : List ℕ). own_line ns ++ y) (cells-copied p.shared s.cells_part s.body_part c s.cells_line_spec (body-stays ns s.names p.body s.body_part s.body)
+    ∙ ap (λ (y : List ℕ). own_line ns ++ y) (cells-copied p.shared s.cells_part s.body_part c s.cells_line (body-stays ns s.names p.body s.body_part s.body)
     ∙ ap (λ (y : List ℕ). cells_line_spec p.shared ++ y) (ap copy (sym (append-nil s.body_part)) ∙ (copy_body ns s.names p.body s.body_part [] fits s.body ∙ append-nil (written_body ns p.body)))))

@@ -68,7 +68,7 @@ spelt ns p i o c f = record {
   whole = refl;
   owned = o;
   own_line = own-spelt ns;
-  cells_line_spec = cells-spelt p.shared c;
+  cells_line = cells-spelt p.shared c;
   names = i;
   body = body-spelt ns p.body (rw o at f);
 }

@@ -56,7 +56,7 @@ pub fn read_stdin(rt: &HostRuntime) -> io::Result<Vec<u8>>
     Ok(bytes)
 }
 
-// The status of a program that has said already why it ends: 1 for an error, else 0. Nothing more is printed.
+// The status that a program ends with: 0, or 1 for an error. Nothing is printed here: what a person has to know stands on standard error by then.
 pub fn status(done: io::Result<()>) -> ExitCode
     ensures ok { OnOk done (exit_status result ≡ 0) }
     ensures err { OnErr done (exit_status result ≡ 1) }

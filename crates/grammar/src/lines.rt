@@ -168,7 +168,7 @@ pub fn within_line(pos: usize, found: Result<Lined, Refusal>) -> Result<Lined, R
 }
 
 // The line at byte pos. For names ns that are distinct and stand in the text's first line, it is the line that
-// stands there (`Line-here`, with its expressions' bytes and the byte of the next line), and a line of up to 1,024 bytes
+// stands there (`LineHere`, with its expressions' bytes and the byte of the next line), and a line of up to 1,024 bytes
 // that stands there is answered: exactly it.
 pub fn parse_line(text: &[u8], pos: usize) -> Result<Lined, Refusal>
     ensures walk { (ns : List (List ℕ)) → NamesIn ns text.now → result ≡ line_at (place_in ns) text.now pos }

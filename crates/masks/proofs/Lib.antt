@@ -1,5 +1,4 @@
 pub mod Bits
 pub mod Counts
-pub mod Equal
 pub mod Spanning
 pub mod Vectors

@@ -4,8 +4,8 @@
 mod spans;
 mod words;
 
-ghost use Rattle.std.specs.Prelude.{◌≡◌, ℕ, ◌<◌, ◌≤◌, true, false, not, ◌&&◌, ◌||◌, nat_lt};
-ghost use Rattle.masks.specs.Masks.{on, lanes_in, lacking};
+ghost use Rattle.std.specs.Prelude.{◌≡◌, ℕ, ◌≤◌, ◌<◌, false, not, ◌&&◌, ◌||◌, MatchOption, nat_lt};
+ghost use Rattle.masks.specs.Masks.{on, lanes_in, lacking, Lowest};
 
 pub use spans::{Span, span_at};
 pub use words::at;
@@ -40,20 +40,19 @@ pub fn without(a: u32, b: u32) -> u32
     a ^ (a & b)
 }
 
-// The lowest lane of the mask, or 32 if it has none.
-pub fn lowest(mask: u32) -> usize
-    ensures most { result ≤ 32 }
-    ensures here { result < 32 → on mask result ≡ true }
-    ensures below { (i : ℕ) → i < result → on mask i ≡ false }
+// The lowest lane of the mask, if it has one.
+pub fn lowest(mask: u32) -> Option<usize>
+    ensures { MatchOption result ((i : ℕ) → on mask i ≡ false) (λ i. Lowest mask i) }
 {
-    mask.trailing_zeros() as usize
+    let i = mask.trailing_zeros() as usize;
+    (i < 32).then_some(i)
 }
 
 // How many lanes are in the mask.
 pub fn count(mask: u32) -> u64
     ensures { result ≡ lanes_in mask 32 }
 {
-    mask.count_ones() as u64
+    u64::from(mask.count_ones())
 }
 
 // The lanes below `width`.
@@ -62,7 +61,7 @@ pub fn first_lanes(width: usize) -> u32
     ensures { (i : ℕ) → on result i ≡ nat_lt i width }
 {
     if width == 32 {
-        return 0xFFFF_FFFF;
+        return u32::MAX;
     }
-    (1u32 << width) - 1
+    (1 << width) - 1
 }

@@ -1,26 +1,23 @@
 // A mask's lanes as spans of neighbouring ones.
-ghost use Rattle.std.specs.Prelude.{◌<◌};
+ghost use Rattle.std.specs.Prelude.{◌≡◌, ℕ, ◌<◌, ◌≤◌, false, MatchOption};
+ghost use Rattle.masks.specs.Masks.{on};
 ghost use Rattle.masks.specs.Spans.{Spanned};
 
+use crate::lowest;
+
 // Lanes from .. to of a row.
-#[derive(Clone, Copy)]
+#[derive(Clone, Copy, Debug, PartialEq, Eq)]
 pub struct Span {
     pub from: usize,
     pub to: usize,
 }
 
-// The first span of lanes in the mask at lane i or behind it; from 32 to 32 if there is none.
-pub fn span_at(mask: u32, i: usize) -> Span
+// The first span of lanes in the mask at lane i or behind it, if there is one.
+pub fn span_at(mask: u32, i: usize) -> Option<Span>
     requires { i < 32 }
-    ensures { Spanned mask i result }
+    ensures { MatchOption result ((j : ℕ) → i ≤ j → on mask j ≡ false) (λ r. Spanned mask i r) }
 {
-    let from = i + (mask >> i).trailing_zeros() as usize;
-    if from >= 32 {
-        return Span { from: 32, to: 32 };
-    }
-    let to = from + (!(mask >> from)).trailing_zeros() as usize;
-    Span {
-        from,
-        to: to.min(32),
-    }
+    let from = i + lowest(mask >> i)?;
+    let to = lowest(!(mask >> from)).map_or(32, |n| from + n);
+    Some(Span { from, to })
 }

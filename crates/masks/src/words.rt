@@ -1,5 +1,5 @@
 // Which words of a row are the same.
-ghost use Rattle.std.specs.Prelude.{◌≡◌, ℕ, ◌<◌, ◌≤◌, true, ◌&&◌, length, ◌==◌, nat_lt, slice_index};
+ghost use Rattle.std.specs.Prelude.{◌≡◌, ℕ, ◌≤◌, ◌&&◌, length, ◌==◌, nat_lt, slice_index};
 ghost use Rattle.masks.specs.Masks.{on};
 
 use std::simd::Simd;
@@ -13,14 +13,16 @@ fn row_at(xs: &[u32], v: u32) -> u32
     row.simd_eq(Simd::splat(v)).to_bitmask() as u32
 }
 
-// Which words are v, one lane after the other, the highest first.
+// Which words are v, one lane after the other.
 fn each_at(xs: &[u32], v: u32) -> u32
     requires { length xs.now ≤ 32 }
     ensures { (i : ℕ) → on result i ≡ (nat_lt i (length xs.now) && slice_index xs.now i == v) }
 {
     let mut mask = 0;
-    for i in (0..xs.len()).rev() {
-        mask = mask * 2 + (xs[i] == v) as u32;
+    for (i, x) in xs.iter().enumerate() {
+        if *x == v {
+            mask |= 1 << i;
+        }
     }
     mask
 }

@@ -2,4 +2,4 @@ use Rattle.masks.proofs.Bits.{on-either}
 use Rattle.masks.proofs.either.Goals as goal
 
 pub returns : goal.returns
-returns c = λ i. on-either c.args.a c.args.b i
+returns c = on-either c.args.a c.args.b

@@ -19,7 +19,7 @@ unfolding each_byte
 name-stays a x i =
     let n = name-unlike a i.free in
     sym (left-none (a ++ (codes " = " ++ x))
-    (sym (begins-word (codes "else") (codes "end" ++ (10 ∷ [])) a (codes " = " ++ x) 10 refl refl i.bytes refl n.elses))
+    (sym (begins-word (codes "else") _ a (codes " = " ++ x) 10 refl refl i.bytes refl n.elses))
     (sym (begins-word (codes "cells") [] a (codes " = " ++ x) 32 refl refl i.bytes refl n.cells)))
 
 module _ (ns : List (List ℕ)) (names : (k : ℕ) → k < length ns → IsName (get_or ns k [])) where

@@ -1,72 +1,40 @@
 // Copying a text byte by byte, without what is not written anew.
-ghost use Rattle.std.specs.Prelude.{◌≡◌, ℕ, ◌+◌, ◌<◌, ◌≤◌, Bool, ◌++◌, length, take, drop, if◌then◌else◌, nat_eq, slice_index};
-ghost use Rattle.writer.specs.Copy.{begins, zeros, left_out, zero_led, copied, copy};
+ghost use Rattle.std.specs.Prelude.{◌≡◌, ℕ, ◌+◌, ◌<◌, ◌≤◌, Bool, ◌∷◌, ◌++◌, length, take, if◌then◌else◌, nat_eq, slice_index, ◌==◌};
+ghost use Rattle.std.specs.List.{prefix_len};
+ghost use Rattle.writer.specs.Copy.{left_out, zero_led, copied, copy};
 
 use grammar::bytes::{byte, is_digit, is_word};
 
-// The text goes on with p from byte i on.
-fn begins_at(text: &[u8], i: usize, p: &[u8]) -> bool
-    requires { i ≤ length text.now }
-    ensures { result ≡ begins p.now (drop i text.now) }
+// How many zeros stand in front.
+fn zeros_in_front(text: &[u8]) -> usize
+    ensures { result ≡ prefix_len (λ b. b == 48) text.now }
 {
-    for k in 0..p.len() {
-        if text.len() - i <= k {
-            return false;
-        }
-        if text[i + k] != p[k] {
-            return false;
-        }
-    }
-    true
+    text.iter().take_while(|b| **b == b'0').count()
 }
 
-// How many zeros stand from byte i on.
-fn zeros_at(text: &[u8], i: usize) -> usize
-    requires { i ≤ length text.now }
-    ensures is { result ≡ zeros (drop i text.now) }
-    ensures within { i + result ≤ length text.now }
+// How many bytes are left out in front of what is left of a text, where a line begins.
+fn left_out(text: &[u8]) -> usize
+    ensures { result ≡ left_out text.now }
 {
-    let mut n = 0;
-    while n < text.len() - i {
-        if text[i + n] != 48 {
-            break;
-        }
-        n += 1;
-    }
-    n
-}
-
-// How many bytes are left out from byte i on, where a line begins.
-fn left_out_at(text: &[u8], i: usize) -> usize
-    requires { i ≤ length text.now }
-    ensures { result ≡ left_out (drop i text.now) }
-{
-    if begins_at(text, i, b"else\nend\n") {
+    if text.starts_with(b"else\nend\n") {
         return 5;
     }
-    if text.len() - i < 7 {
+    let Some(cells) = text.strip_prefix(b"cells ") else {
         return 0;
-    }
-    if !begins_at(text, i, b"cells ") {
-        return 0;
-    }
-    let zeros = zeros_at(text, i + 6);
-    if zeros < 1 {
-        return 0;
-    }
-    if byte(text, i + 6 + zeros) == 10 {
+    };
+    let zeros = zeros_in_front(cells);
+    if zeros > 0 && byte(cells, zeros) == b'\n' {
         7 + zeros
     } else {
         0
     }
 }
 
-// How many bytes are left out behind the byte b at i: some only where a line begins.
-fn left_behind(text: &[u8], i: usize, b: u8) -> usize
-    requires { i < length text.now }
-    ensures { result ≡ (if nat_eq b 10 then left_out (drop (i + 1) text.now) else 0) }
+// How many bytes are left out behind the byte b: some only where a line begins.
+fn left_behind(b: u8, behind: &[u8]) -> usize
+    ensures { result ≡ (if nat_eq b 10 then left_out behind.now else 0) }
 {
-    if b == 10 { left_out_at(text, i + 1) } else { 0 }
+    if b == b'\n' { left_out(behind) } else { 0 }
 }
 
 // How far a copy has come: how many bytes are written, how many more are to be left out, and whether it is inside a word.
@@ -81,38 +49,30 @@ pub struct Copying {
 fn zero_leads(inside: bool, b: u8, behind: u8) -> bool
     ensures { result ≡ zero_led inside b behind }
 {
-    !inside && b == 48 && is_digit(behind)
+    !inside && b == b'0' && is_digit(behind)
 }
 
-// The text's byte i is copied, or left out.
-fn copy_byte(text: &[u8], i: usize, out: &mut [u8], at: Copying) -> Copying
-    requires i_within { i < length text.now }
-    requires len_within { at.len ≤ i }
-    requires fits { length text.now ≤ length out.old }
-    ensures copied { take result.len out.new ++ copied result.left result.inside (drop (i + 1) text.now) ≡ take at.len out.old ++ copied at.left at.inside (drop i text.now) }
-    ensures len { result.len ≤ i + 1 }
+// The byte b is copied, or left out; behind it stands the rest of the text.
+fn copy_byte(b: u8, behind: &[u8], out: &mut [u8], at: Copying) -> Copying
+    requires { at.len < length out.old }
+    ensures copied { take result.len out.new ++ copied result.left result.inside behind.now ≡ take at.len out.old ++ copied at.left at.inside (b ∷ behind.now) }
+    ensures len { result.len ≤ at.len + 1 }
     ensures grows { at.len ≤ result.len }
     ensures same { (k : ℕ) → result.len ≤ k → slice_index out.new k ≡ slice_index out.old k }
 {
     if at.left > 0 {
         return Copying {
-            len: at.len,
             left: at.left - 1,
-            inside: at.inside,
+            ..at
         };
     }
-    let b = text[i];
-    if zero_leads(at.inside, b, byte(text, i + 1)) {
-        return Copying {
-            len: at.len,
-            left: 0,
-            inside: false,
-        };
+    if zero_leads(at.inside, b, byte(behind, 0)) {
+        return at;
     }
     out[at.len] = b;
     Copying {
         len: at.len + 1,
-        left: left_behind(text, i, b),
+        left: left_behind(b, behind),
         inside: is_word(b),
     }
 }
@@ -126,11 +86,13 @@ pub fn copy_all(text: &[u8], out: &mut [u8]) -> usize
 {
     let mut at = Copying {
         len: 0,
-        left: left_out_at(text, 0),
+        left: left_out(text),
         inside: false,
     };
-    for i in 0..text.len() {
-        at = copy_byte(text, i, out, at);
+    let mut rest = text;
+    while let Some((b, behind)) = rest.split_first() {
+        at = copy_byte(*b, behind, out, at);
+        rest = behind;
     }
     at.len
 }

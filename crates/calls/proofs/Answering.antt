@@ -10,7 +10,7 @@ use Rattle.formats.specs.Meaning.{meant}
 use Rattle.formats.specs.declared.sizes.Room.{Room}
 use Rattle.formats.specs.declared.told.Told.{Told}
 use Rattle.store.specs.declared.Sizes.{Sizes}
-use Rattle.store.specs.Layout.{Sized, room as lanes-room, base, cells_room}
+use Rattle.store.specs.Layout.{room as lanes-room, base, cells_room}
 use Rattle.store.specs.Lent.{field_of, Lent}
 use Rattle.store.proofs.Upto.{upto_is, upto-length}
 use Rattle.machine.specs.declared.verdict.Verdict.{Verdict}
@@ -22,6 +22,7 @@ use Rattle.calls.specs.Load.{For, Starts}
 use Rattle.calls.specs.Judge.{Judged}
 use Rattle.calls.specs.Plan.{plan_of_spec, Plans}
 use Rattle.calls.specs.Tell.{OnePlace}
+use Rattle.calls.proofs.Planning.{plan-sized}
 use Rattle.calls.proofs.Judging.{judged}
 use Rattle.calls.proofs.Placing.{shown-place}
 
@@ -40,23 +41,10 @@ unfolding field_of
 field-long z cs xs e = ap length e ∙ upto-length _ z.field
 
 module _ (text bytes : List ℕ) (room : Room) (p : Plan) (pl : Plans text bytes room p) where
-  sized : Sized (plan_of_spec pl.shape pl.header).sizes
-  sized =
-      let i = pl.field.in_range in
-      let t = pl.read.taken in
-      record {
-        groups = i.groups_few;
-        some_lane = i.some_lane;
-        lanes = i.lanes_few;
-        owns = omega (arith, t.few_names, t.spelled.owned, pl.read.owns);
-        shared = omega (arith, t.few_cells, pl.read.cells);
-        field = i.cells_few;
-      }
-
   lent_of : (ls cs : List ℕ) → length ls ≡ room.lanes → length cs ≡ room.cells → Lent (plan_of_spec pl.shape pl.header).sizes ls cs
   unfolding lanes-room
   lent_of ls cs a b = record {
-    sized = sized;
+    sized = plan-sized text bytes pl.shape pl.header pl.read pl.field;
     lanes_fit = rw (mul_right_comm pl.header.groups (128 + pl.shape.owns) pl.header.lanes) (omega (arith, pl.lanes_fit));
     cells_fit = subst (λ (q : Plan). cells_room q.sizes ≤ length cs) pl.plan (omega (arith, pl.cells_fit));
   }

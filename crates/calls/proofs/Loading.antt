@@ -31,12 +31,13 @@ cell-here a k m c xs ys bs h e l =
     back : (a c : ℕ) → (a + c) - a ≡ c
     back a c = omega arith
 
-pub field-copied : (z : Sizes) (k m : ℕ) (xs ys bs : List ℕ) → z.groups * z.shared ≤ length xs → ys ≡ cells_read bs m → m ≡ z.field →
-    field_of z (put_mid (z.groups * z.shared) k xs ys) ≡ cells_read bs z.field
+pub field-copied : (z : Sizes) (from k m : ℕ) (xs ys bs : List ℕ) → from ≡ z.groups * z.shared → from ≤ length xs → ys ≡ cells_read bs m → m ≡ z.field →
+    field_of z (put_mid from k xs ys) ≡ cells_read bs z.field
 unfolding field_of cells_read base upto
-field-copied z k m xs ys bs h e n =
-    upto-same 0 (λ c. get_or (put_mid (z.groups * z.shared) k xs ys) (z.groups * z.shared + c) 0) (cell_at bs) z.field
-    (λ c l. cell-here (z.groups * z.shared) k m c xs ys bs h e (omega arith))
+field-copied z from k m xs ys bs same h e n =
+    rw (← same)
+    (upto-same 0 (λ c. get_or (put_mid from k xs ys) (from + c) 0) (cell_at bs) z.field
+    (λ c l. cell-here from k m c xs ys bs h e (omega arith)))
 
 pub loads : (ns : List (List ℕ)) (p : Program) (z : Sizes) (text bytes steps after ls cs ls' cs' ks : List ℕ) (r : ℕ) → For ns p z text steps → Compiled ns p text steps after r → Started z ls cs ls' cs' →
     field_of z cs ≡ cells_read bytes z.field → ((y : Layout) → AllKept y [] ks) → Loads ns p z text bytes after ls' cs' ks r

@@ -9,6 +9,7 @@ use Rattle.formats.specs.Sizes.{wanted_for, check_as}
 use Rattle.formats.specs.declared.field.Header.{Header}
 use Rattle.formats.specs.declared.refusal.Refusal as fields
 use Rattle.formats.specs.declared.sizes.Room.{Room}
+use Rattle.store.specs.Layout.{Sized}
 use Rattle.calls.specs.declared.plan.Refused.TheVariants.{Text, Rest}
 use Rattle.calls.specs.Plan.{asked, plan_of_spec, checked, prepared, planned, wanted_by, wanted_as, Plans}
 
@@ -30,6 +31,20 @@ module _ (text bytes : List ℕ) (room : Room) where
 
   pub taken : (s : Shape) (h : Header) (u : Unit {0}) → Ok s ≡ read_at text → Ok h ≡ read_as bytes → Ok u ≡ check_as (wanted_for (asked s h)) room → Ok (plan_of_spec s h) ≡ planned text bytes room
   taken s h u p q c = ap (λ (x : Result (Unit {0}) fields.Refusal). checked x (plan_of_spec s h)) c ∙ by-check s h p q
+
+-- the sizes of what is read are in bounds
+pub plan-sized : (text bytes : List ℕ) (s : Shape) (h : Header) → ReadAs text s → IsField bytes h → Sized (plan_of_spec s h).sizes
+plan-sized text bytes s h read field =
+    let i = field.in_range in
+    let t = read.taken in
+    record {
+      groups = i.groups_few;
+      some_lane = i.some_lane;
+      lanes = i.lanes_few;
+      owns = omega (arith, t.few_names, t.spelled.owned, read.owns);
+      shared = omega (arith, t.few_cells, read.cells);
+      field = i.cells_few;
+    }
 
 -- slices that are not refused are long enough
 record Enough (w r : Room) : Type 0 where

@@ -8,23 +8,23 @@ use Rattle.joins.specs.declared.Join.{Join}
 use Rattle.joins.specs.Stack.{RowAt, width_of, join_at, depth_of, down_from, stack_of, Stacked}
 use Rattle.joins.proofs.Stacklists.{down-same}
 
-pub width-most : (z : Sizes) (start : ℕ) → width_of z start ≤ 32
+pub width-most : (z : Sizes) (start : ℕ) → width_of z.lanes start ≤ 32
 unfolding width_of
 width-most z start = min-le_right (z.lanes - start) 32
 
-pub width-there : (z : Sizes) (start : ℕ) → width_of z start ≤ z.lanes - start
+pub width-there : (z : Sizes) (start : ℕ) → width_of z.lanes start ≤ z.lanes - start
 unfolding width_of
 width-there z start = min-le_left (z.lanes - start) 32
 
-pub depth-most : (z : Sizes) (ls : List ℕ) (g start : ℕ) → depth_of z ls g start ≤ 16 * width_of z start
+pub depth-most : (z : Sizes) (ls : List ℕ) (g start : ℕ) → depth_of z ls g start ≤ 16 * width_of z.lanes start
 unfolding depth_of
-depth-most z ls g start = min-le_right (slot_of z ls g 6 start) (16 * width_of z start)
+depth-most z ls g start = min-le_right (slot_of z ls g 6 start) (16 * width_of z.lanes start)
 
 -- the lane that a join lies in
-pub lane-there : (z : Sizes) (start k : ℕ) → k < 16 * width_of z start → start + k / 16 < z.lanes
+pub lane-there : (z : Sizes) (start k : ℕ) → k < 16 * width_of z.lanes start → start + k / 16 < z.lanes
 lane-there z start k h = let a = width-there z start in omega arith
 
-pub lane-near : (z : Sizes) (start k : ℕ) → k < 16 * width_of z start → start + k / 16 < start + 32
+pub lane-near : (z : Sizes) (start k : ℕ) → k < 16 * width_of z.lanes start → start + k / 16 < start + 32
 lane-near z start k h = let a = width-most z start in omega arith
 
 pub join_is : (a b c a' b' c' : ℕ) → a ≡ a' → b ≡ b' → c ≡ c' → ◌≡◌ {A = Join} (record { branch = a; line = b; lanes = c }) (record { branch = a'; line = b'; lanes = c' })
@@ -43,11 +43,11 @@ join-same z ls ls' g start k p q r = join_is _ _ _ _ _ _ p q r
 
 pub depth_same : (z : Sizes) (ls ls' : List ℕ) (g start : ℕ) → slot_of z ls' g 6 start ≡ slot_of z ls g 6 start → depth_of z ls' g start ≡ depth_of z ls g start
 unfolding depth_of
-depth_same z ls ls' g start e = ap (λ (n : ℕ). min n (16 * width_of z start)) e
+depth_same z ls ls' g start e = ap (λ (n : ℕ). min n (16 * width_of z.lanes start)) e
 
-pub depth_is : (z : Sizes) (ls : List ℕ) (g start n : ℕ) → n ≤ 16 * width_of z start → slot_of z ls g 6 start ≡ n → depth_of z ls g start ≡ n
+pub depth_is : (z : Sizes) (ls : List ℕ) (g start n : ℕ) → n ≤ 16 * width_of z.lanes start → slot_of z ls g 6 start ≡ n → depth_of z ls g start ≡ n
 unfolding depth_of
-depth_is z ls g start n h e = ap (λ (m : ℕ). min m (16 * width_of z start)) e ∙ min-eq_left h
+depth_is z ls g start n h e = ap (λ (m : ℕ). min m (16 * width_of z.lanes start)) e ∙ min-eq_left h
 
 pub stack_is : (z : Sizes) (ls : List ℕ) (g start n : ℕ) (f : ℕ → Join) → depth_of z ls g start ≡ n → ((k : ℕ) → k < n → join_at z ls g start k ≡ f k) → stack_of z ls g start ≡ down_from f n
 unfolding stack_of

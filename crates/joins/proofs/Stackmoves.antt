@@ -10,7 +10,7 @@ use Rattle.joins.specs.Words.{Deep, JoinPut}
 use Rattle.joins.proofs.Stacklists.{down-none, down-more, down-lost, down_out, down-length, down-split, leaves-past}
 use Rattle.joins.proofs.Stackframes.{lane-there, lane-near, join_is, join-words, join-same, depth_same, depth_is, stack_is, depth-most, stacked-none, stacked-both, stacked-aside}
 
-pub deep : (z : Sizes) (g start n : ℕ) (ls ls' : List ℕ) → RowAt z g start → n ≤ 16 * width_of z start → Aside z g 6 start n ls ls' → Deep z g start n ls ls'
+pub deep : (z : Sizes) (g start n : ℕ) (ls ls' : List ℕ) → RowAt z g start → n ≤ 16 * width_of z.lanes start → Aside z g 6 start n ls ls' → Deep z g start n ls ls'
 deep z g start n ls ls' row most a = record {
   frame = stacked-aside z g start row 6 start n ls ls' (omega arith) (omega arith) (omega arith) (omega arith) a;
   depth = depth_is z ls' g start n most a.here;
@@ -20,7 +20,7 @@ deep z g start n ls ls' row most a = record {
       join-same z ls ls' g start k (kept (16 + k % 16) (omega arith) (λ e. omega arith)) (kept (32 + k % 16) (omega arith) (λ e. omega arith)) (kept (48 + k % 16) (omega arith) (λ e. omega arith));
 }
 
-module _ (z : Sizes) (g start k : ℕ) (j : Join) (ls ls₁ ls₂ ls₃ : List ℕ) (row : RowAt z g start) (h : k < 16 * width_of z start)
+module _ (z : Sizes) (g start k : ℕ) (j : Join) (ls ls₁ ls₂ ls₃ : List ℕ) (row : RowAt z g start) (h : k < 16 * width_of z.lanes start)
     (a : Aside z g (16 + k % 16) (start + k / 16) j.branch ls ls₁) (b : Aside z g (32 + k % 16) (start + k / 16) j.line ls₁ ls₂)
     (c : Aside z g (48 + k % 16) (start + k / 16) j.lanes ls₂ ls₃) where
   -- other words
@@ -45,7 +45,7 @@ module _ (z : Sizes) (g start k : ℕ) (j : Join) (ls ls₁ ls₂ ls₃ : List �
       (c.rest g (32 + k % 16) (start + k / 16) (omega arith) there (λ _ x _. omega arith) ∙ b.here)
       c.here
 
-  same-put : (i : ℕ) → i < 16 * width_of z start → (i ≡ k → ⊥) → join_at z ls₃ g start i ≡ join_at z ls g start i
+  same-put : (i : ℕ) → i < 16 * width_of z.lanes start → (i ≡ k → ⊥) → join_at z ls₃ g start i ≡ join_at z ls g start i
   same-put i hi ne =
       let there = lane-there z start i hi in
       let no : i % 16 ≡ k % 16 → start + i / 16 ≡ start + k / 16 → ⊥ = λ p q. ne (omega arith) in
@@ -76,7 +76,7 @@ module _ (z : Sizes) (g start : ℕ) (ls : List ℕ) where
   pub stack-split : (k : ℕ) → k < depth_of z ls g start → (above : List Join) × (stack_of z ls g start ≡ above ++ (join_at z ls g start k ∷ down_from (join_at z ls g start) k))
   stack-split k h = let p = down-split (join_at z ls g start) (depth_of z ls g start) k h in (p.0, stack-was ∙ p.1)
 
-  pub pushed : (n : ℕ) (j : Join) (ls' ls'' : List ℕ) → n ≡ depth_of z ls g start → n < 16 * width_of z start → JoinPut z g start n j ls ls' → Deep z g start (n + 1) ls' ls'' →
+  pub pushed : (n : ℕ) (j : Join) (ls' ls'' : List ℕ) → n ≡ depth_of z ls g start → n < 16 * width_of z.lanes start → JoinPut z g start n j ls ls' → Deep z g start (n + 1) ls' ls'' →
       stack_of z ls'' g start ≡ j ∷ stack_of z ls g start
   pushed n j ls' ls'' e h p d =
       stack_is z ls'' g start (suc n) (join_at z ls'' g start) (d.depth ∙ add-one n) (λ k l. refl)
@@ -104,9 +104,9 @@ lost_as old j mask left e q = join_is _ _ _ _ _ _ refl refl q ∙ ap (λ (o : Jo
 -- the joins above k up to i have moved down by one
 pub record MovedDown (z : Sizes) (g start k i : ℕ) (ls ls' : List ℕ) : Type 0 where
   pub frame : Stacked z g start ls ls'
-  pub low : (j : ℕ) → j < k → j < 16 * width_of z start → join_at z ls' g start j ≡ join_at z ls g start j
+  pub low : (j : ℕ) → j < k → j < 16 * width_of z.lanes start → join_at z ls' g start j ≡ join_at z ls g start j
   pub moved : (j : ℕ) → k ≤ j → suc j < i → join_at z ls' g start j ≡ join_at z ls g start (suc j)
-  pub rest : (j : ℕ) → i ≤ suc j → j < 16 * width_of z start → join_at z ls' g start j ≡ join_at z ls g start j
+  pub rest : (j : ℕ) → i ≤ suc j → j < 16 * width_of z.lanes start → join_at z ls' g start j ≡ join_at z ls g start j
 
 pub moved_none : (z : Sizes) (g start k i : ℕ) (ls : List ℕ) → i ≡ k + 1 → MovedDown z g start k i ls ls
 moved_none z g start k i ls e = record {
@@ -116,7 +116,7 @@ moved_none z g start k i ls e = record {
   rest = λ j a b. refl;
 }
 
-pub moved_more : (z : Sizes) (g start k i : ℕ) (x : Join) (ls ls' ls'' : List ℕ) → k + 1 ≤ i → i < 16 * width_of z start → MovedDown z g start k i ls ls' → x ≡ join_at z ls' g start i →
+pub moved_more : (z : Sizes) (g start k i : ℕ) (x : Join) (ls ls' ls'' : List ℕ) → k + 1 ≤ i → i < 16 * width_of z.lanes start → MovedDown z g start k i ls ls' → x ≡ join_at z ls' g start i →
     JoinPut z g start (i - 1) x ls' ls'' → MovedDown z g start k (i + 1) ls ls''
 moved_more z g start k i x ls ls' ls'' hk hi m e p = record {
   frame = stacked-both z g start ls ls' ls'' m.frame p.frame;

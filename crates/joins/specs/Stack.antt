@@ -18,9 +18,9 @@ pub record RowAt (z : Sizes) (g start : ℕ) : Type 0 where
   pub lane : start < z.lanes
   pub even : start % 32 ≡ 0
 
--- How many lanes the row has.
-unfoldable pub width_of : Sizes → ℕ → ℕ
-width_of z start = min (z.lanes - start) 32
+-- How many lanes the row has, of so many lanes.
+unfoldable pub width_of : ℕ → ℕ → ℕ
+width_of lanes start = min (lanes - start) 32
 
 -- Join k of the row, counted from the oldest.
 unfoldable pub join_at : Sizes → List ℕ → ℕ → ℕ → ℕ → Join
@@ -32,7 +32,7 @@ join_at z ls g start k = record {
 
 -- How many joins are on the stack: as many as its word says, and no more than there is room for.
 unfoldable pub depth_of : Sizes → List ℕ → ℕ → ℕ → ℕ
-depth_of z ls g start = min (slot_of z ls g 6 start) (16 * width_of z start)
+depth_of z ls g start = min (slot_of z ls g 6 start) (16 * width_of z.lanes start)
 
 -- f (n - 1), .. f 1, f 0
 unfoldable pub down_from : (ℕ → Join) → ℕ → List Join

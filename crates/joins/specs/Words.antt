@@ -8,11 +8,11 @@ use Rattle.joins.specs.Stack.{width_of, join_at, depth_of, Stacked}
 pub record Deep (z : Sizes) (g start n : ℕ) (ls ls' : List ℕ) : Type 0 where
   pub frame : Stacked z g start ls ls'
   pub depth : depth_of z ls' g start ≡ n
-  pub same : (k : ℕ) → k < 16 * width_of z start → join_at z ls' g start k ≡ join_at z ls g start k
+  pub same : (k : ℕ) → k < 16 * width_of z.lanes start → join_at z ls' g start k ≡ join_at z ls g start k
 
 -- Join k is j, and the others are as they were.
 pub record JoinPut (z : Sizes) (g start k : ℕ) (j : Join) (ls ls' : List ℕ) : Type 0 where
   pub frame : Stacked z g start ls ls'
   pub depth : depth_of z ls' g start ≡ depth_of z ls g start
   pub here : join_at z ls' g start k ≡ j
-  pub same : (i : ℕ) → i < 16 * width_of z start → (i ≢ k) → join_at z ls' g start i ≡ join_at z ls g start i
+  pub same : (i : ℕ) → i < 16 * width_of z.lanes start → (i ≢ k) → join_at z ls' g start i ≡ join_at z ls g start i

@@ -4,7 +4,6 @@ use Rattle.std.proofs.lemmas.Bool.{both_ways, cases_Bool}
 use Rattle.lanes.specs.Syntax.{Body, barrier, at_barrier}
 use Rattle.lanes.specs.Grid.{Grid, release, can, turn}
 use Rattle.store.specs.declared.Sizes.{Sizes}
-use Rattle.store.specs.Layout.{Sized}
 use Rattle.store.specs.Lent.{Lined, line_at, phase_of_spec, grid_of}
 use Rattle.store.specs.Acts.{Released}
 use Rattle.store.proofs.Slots.{phase-same}
@@ -20,14 +19,14 @@ lined-up z a b ls h k g l hg hl = let q = k g l hg hl in omega arith
 pub all-wait : (z : Sizes) (at : ℕ → Body) (ls cs : List ℕ) (g l : ℕ) → g < z.groups → l < z.lanes → can z.lanes (grid_of z at ls cs) (release g) ≡ true → at_barrier (at (line_at z ls g l)) ≡ true
 all-wait z at ls cs g l hg hl could = elim (cases_Bool (at_barrier (at (line_at z ls g l)))) [ inl e ↦ e | inr e ↦ absurd (both_ways _ (cannot-go z at ls cs g l hg hl e) could) ]
 
-module _ (z : Sizes) (steps : List ℕ) (lines g : ℕ) (ls ls₁ ls₂ : List ℕ) (sized : Sized z) (hg : g < z.groups) (set : GroupSettled z steps lines g z.lanes ls ls₁) where
+module _ (z : Sizes) (steps : List ℕ) (lines g : ℕ) (ls ls₁ ls₂ : List ℕ) (some : 0 < z.lanes) (hg : g < z.groups) (set : GroupSettled z steps lines g z.lanes ls ls₁) where
   pub same-phase : (h : ℕ) → phase_of_spec z ls₁ h ≡ phase_of_spec z ls h
-  same-phase h = let some = sized.some_lane in
+  same-phase h =
       phase-same z ls ls₁ h (set.rest h 2 0 (omega arith) (omega arith) (omega arith)) (set.rest h 3 0 (omega arith) (omega arith) (omega arith))
 
   module _ (rel : (cs : List ℕ) → Released z g ls₁ cs ls₂) where
     phase-other : (h : ℕ) → (h ≡ g → ⊥) → phase_of_spec z ls₂ h ≡ phase_of_spec z ls₁ h
-    phase-other h ne = let some = sized.some_lane in
+    phase-other h ne =
         phase-same z ls₁ ls₂ h ((rel ls₁).rest h 2 0 (omega arith) (omega arith) (λ e _. ne e)) ((rel ls₁).rest h 3 0 (omega arith) (omega arith) (λ e _. ne e))
 
     line-rest : (h l : ℕ) → l < z.lanes → (h ≡ g → ⊥) → line_at z ls₂ h l ≡ line_at z ls₁ h l

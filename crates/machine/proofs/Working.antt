@@ -2,7 +2,7 @@
 use Rattle.std.proofs.Common.{◌≡◌, ℕ, ◌+◌, ◌<◌, ◌≤◌, List, ◌++◌, length, ◌∙◌, arith}
 use lib.ListN.{get_or-append}
 use Rattle.store.specs.declared.Sizes.{Sizes}
-use Rattle.store.specs.Layout.{Sized, room, place_of}
+use Rattle.store.specs.Layout.{room, place_of}
 use Rattle.store.specs.Lent.{own_of}
 use Rattle.store.proofs.Slots.{own_at, own_range}
 use Rattle.values.specs.declared.row.Row.{Row}
@@ -13,12 +13,12 @@ use Rattle.machine.specs.Plans.{Worked}
 abbrev pub row_at : Sizes → ℕ → ℕ → Row
 row_at z g start = record { group = g; lanes = z.lanes; first = start; base = place_of z g 128 start; stride = z.lanes; owns = z.owns }
 
-module _ (z : Sizes) (k : Sized z) (ls : List ℕ) (g start width : ℕ) (hg : g < z.groups) (hs : start < z.lanes) (narrow : width ≤ 32) (within : start + width ≤ z.lanes) (fit : room z ≤ length ls) where
+module _ (z : Sizes) (few : z.lanes ≤ 1024) (ls : List ℕ) (g start width : ℕ) (hg : g < z.groups) (hs : start < z.lanes) (narrow : width ≤ 32) (within : start + width ≤ z.lanes) (fit : room z ≤ length ls) where
   pub row_fits : RowFits (row_at z g start) ls width
   row_fits =
       record {
         narrow = narrow;
-        counted = let p = k.lanes in omega arith;
+        counted = omega arith;
         within = λ j h. let p = own_range z g j start width hg h hs within in omega arith;
       }
 

@@ -48,7 +48,7 @@ pub fn do_lane(
     ensures { LaneDid z lanes.old cells.old marks.old lanes.new cells.new marks.new g l work.stop work.todo c v result }
 {
     let deed = perform(z, lanes, cells, g, l, work.stop, work.todo, c, v);
-    note(z, marks, g, l, phase, work.line, deed)
+    note(marks, g, l, phase, work.line, deed)
 }
 
 pub fn is_on(mask: u32, i: usize) -> bool

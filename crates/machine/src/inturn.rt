@@ -2,7 +2,7 @@
 ghost use Rattle.std.specs.Prelude.{◌≡◌, ℕ, suc, ◌+◌, ◌<◌, ◌≤◌, true, false, List, length};
 ghost use Rattle.lanes.specs.Syntax.{Body};
 ghost use Rattle.lanes.specs.Grid.{of, can};
-ghost use Rattle.store.specs.Layout.{Sized, room};
+ghost use Rattle.store.specs.Layout.{room};
 ghost use Rattle.store.specs.Lent.{grid_of};
 ghost use Rattle.machine.specs.Line.{Runs};
 ghost use Rattle.machine.specs.Schedule.{Passed, Picked, come_to};
@@ -13,13 +13,13 @@ use store::Sizes;
 
 // The first lane of the group, from lane `from` on, that can step.
 fn lane_from(steps: &[u32], lines: usize, z: Sizes, lanes: &[u32], g: usize, from: usize) -> usize
-    requires sized { Sized z }
     requires fit { room z ≤ length lanes.now }
     ensures passed { (at : ℕ → Body) (cs : List ℕ) → Runs z at steps.now lines lanes.now → (k : ℕ) → from ≤ k → k < result → can z.lanes (grid_of z at lanes.now cs) (of g k) ≡ false }
     ensures found { result < z.lanes → (at : ℕ → Body) (cs : List ℕ) → Runs z at steps.now lines lanes.now → can z.lanes (grid_of z at lanes.now cs) (of g result) ≡ true }
 {
+    let many = z.lanes;
     let mut l = from;
-    while l < z.lanes {
+    while l < many {
         if can_step(steps, lines, z, lanes, g, l) {
             return l;
         }
@@ -37,15 +37,21 @@ pub fn find_from(
     group: usize,
     lane: usize,
 ) -> Option<Choice>
-    requires sized { Sized z }
     requires fit { room z ≤ length lanes.now }
     ensures { (at : ℕ → Body) (cs : List ℕ) → Runs z at steps.now lines lanes.now → Passed z.lanes (grid_of z at lanes.now cs) group lane → Picked z at lanes.now cs result }
 {
+    let Sizes {
+        groups,
+        lanes: many,
+        owns: _,
+        shared: _,
+        field: _,
+    } = z;
     let mut g = group;
     let mut from = lane;
-    while g < z.groups {
+    while g < groups {
         let l = lane_from(steps, lines, z, lanes, g, from);
-        if l < z.lanes {
+        if l < many {
             return Some(Choice::Row {
                 group: g,
                 start: l,

@@ -3,7 +3,7 @@
 ghost use Rattle.std.specs.Prelude.{◌≡◌, ℕ, suc, ◌+◌, ◌*◌, ◌<◌, ◌≤◌, true, List, length};
 ghost use Rattle.lanes.specs.Syntax.{Body};
 ghost use Rattle.lanes.specs.Grid.{Grid, Turn};
-ghost use Rattle.store.specs.Layout.{Sized, room, cells_room};
+ghost use Rattle.store.specs.Layout.{room, cells_room};
 ghost use Rattle.store.specs.Lent.{Lent};
 ghost use Rattle.machine.specs.Sofar.{Sofar};
 ghost use Rattle.machine.specs.Line.{Loaded, Masked, LineDone};
@@ -87,27 +87,27 @@ fn plan_of(owns: usize, step: Step) -> Option<Plan>
 
 // The value of the expression at a byte of the text, for each lane of the row.
 fn values_of(text: &[u8], at: u32, z: Sizes, lanes: &[u32], row: Active, out: &mut [u32])
-    requires sized { Sized z }
     requires fit { room z ≤ length lanes.now }
     requires inside { RowIn z row.group row.start row.mask }
     requires long { length out.old ≡ 32 }
     ensures { Worked z lanes.now row.group row.start text.now at out.new }
 {
-    let width = (z.lanes - row.start).min(32);
+    let many = z.lanes;
+    let owns = z.owns;
+    let width = (many - row.start).min(32);
     let place = Row {
         group: row.group as u32,
-        lanes: z.lanes as u32,
+        lanes: many as u32,
         first: row.start as u32,
         base: own_base(z, row.group, row.start),
-        stride: z.lanes,
-        owns: z.owns,
+        stride: many,
+        owns,
     };
     eval_row(text, at as usize, lanes, place, &mut out[0..width]);
 }
 
 // The second numbers, which only a write has.
 fn seconds_of(text: &[u8], plan: Plan, z: Sizes, lanes: &[u32], row: Active, out: &mut [u32])
-    requires sized { Sized z }
     requires fit { room z ≤ length lanes.now }
     requires inside { RowIn z row.group row.start row.mask }
     requires long { length out.old ≡ 32 }
@@ -120,7 +120,6 @@ fn seconds_of(text: &[u8], plan: Plan, z: Sizes, lanes: &[u32], row: Active, out
 
 // The lanes of the mask are lanes of a group.
 pub fn is_inside(z: Sizes, row: Active) -> bool
-    requires { Sized z }
     ensures yes { result ≡ true → RowIn z row.group row.start row.mask }
     ensures no { RowIn z row.group row.start row.mask → result ≡ true }
 {

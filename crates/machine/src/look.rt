@@ -5,7 +5,7 @@ ghost use Rattle.lanes.specs.Grid.{of, release, can};
 ghost use Rattle.grammar.specs.Spelling.{Named};
 ghost use Rattle.code.specs.Words.{step_at};
 ghost use Rattle.code.specs.Code.{Coded};
-ghost use Rattle.store.specs.Layout.{Sized, room};
+ghost use Rattle.store.specs.Layout.{room};
 ghost use Rattle.store.specs.Lent.{line_at, grid_of};
 ghost use Rattle.machine.specs.Line.{Runs};
 ghost use Rattle.machine.specs.Choices.{StanceIs, stance_of_spec};
@@ -40,7 +40,6 @@ pub fn stance_at(steps: &[u32], lines: usize, entry: usize) -> Stance
 
 // What lane l of group g can do.
 pub fn stance_of(steps: &[u32], lines: usize, z: Sizes, lanes: &[u32], g: usize, l: usize) -> Stance
-    requires sized { Sized z }
     requires fit { room z ≤ length lanes.now }
     requires group { g < z.groups }
     requires lane { l < z.lanes }
@@ -51,7 +50,6 @@ pub fn stance_of(steps: &[u32], lines: usize, z: Sizes, lanes: &[u32], g: usize,
 
 // Lane l of group g can step.
 pub fn can_step(steps: &[u32], lines: usize, z: Sizes, lanes: &[u32], g: usize, l: usize) -> bool
-    requires sized { Sized z }
     requires fit { room z ≤ length lanes.now }
     ensures { (at : ℕ → Body) (cs : List ℕ) → Runs z at steps.now lines lanes.now → result ≡ can z.lanes (grid_of z at lanes.now cs) (of g l) }
 {
@@ -67,7 +65,6 @@ pub fn can_step(steps: &[u32], lines: usize, z: Sizes, lanes: &[u32], g: usize, 
 
 // Lane l of group g waits at a barrier.
 fn waits(steps: &[u32], lines: usize, z: Sizes, lanes: &[u32], g: usize, l: usize) -> bool
-    requires sized { Sized z }
     requires fit { room z ≤ length lanes.now }
     requires group { g < z.groups }
     requires lane { l < z.lanes }
@@ -82,7 +79,6 @@ fn waits(steps: &[u32], lines: usize, z: Sizes, lanes: &[u32], g: usize, l: usiz
 
 // All lanes of group g wait: it can go on.
 pub fn can_go_on(steps: &[u32], lines: usize, z: Sizes, lanes: &[u32], g: usize) -> bool
-    requires sized { Sized z }
     requires fit { room z ≤ length lanes.now }
     ensures { (at : ℕ → Body) (cs : List ℕ) → Runs z at steps.now lines lanes.now → result ≡ can z.lanes (grid_of z at lanes.now cs) (release g) }
 {

@@ -2,10 +2,11 @@
 ghost use Rattle.std.specs.Prelude.{◌≡◌, ℕ, ◌<◌, List, [], ◌∷◌, ◌++◌};
 ghost use Rattle.lanes.specs.Syntax.{Body};
 ghost use Rattle.lanes.specs.Grid.{Grid, Turn, of};
+ghost use Rattle.store.specs.declared.Sizes.{Sizes};
 ghost use Rattle.machine.specs.Sofar.{After, Names, Doing, paired_of, IsWho};
 
 use super::outcome::{Outcome, Race};
-use store::{Deed, Sizes};
+use store::Deed;
 use touches::{Found, Who, touch};
 
 // The touch of the lower group, then of the lower lane, is told first.
@@ -43,7 +44,6 @@ fn who_of(group: usize, lane: usize, phase: u64, line: u32) -> Who
 
 // What came of the turn of a lane that did this deed at a line of the text: a race with an earlier touch, or a wrong lane, or all is well.
 pub fn note(
-    z: Sizes,
     kept: &mut [u64],
     group: usize,
     lane: usize,
@@ -52,7 +52,7 @@ pub fn note(
     deed: Deed,
 ) -> Outcome
     requires few { (group < 1024) × (lane < 1024) }
-    ensures after { (at : ℕ → Body) (d : Grid) (ts : List Turn) (ls cs ls' cs' : List ℕ) → Doing z at d ts ls cs kept.old ls' cs' group lane phase deed → After z at d (ts ++ (of group lane ∷ [])) ls' cs' kept.new result }
+    ensures after { (z : Sizes) (at : ℕ → Body) (d : Grid) (ts : List Turn) (ls cs ls' cs' : List ℕ) → Doing z at d ts ls cs kept.old ls' cs' group lane phase deed → After z at d (ts ++ (of group lane ∷ [])) ls' cs' kept.new result }
     ensures names { Names group lane result }
 {
     match deed {

@@ -2,7 +2,7 @@
 ghost use Rattle.std.specs.Prelude.{◌≡◌, ℕ, suc, ◌+◌, ◌<◌, ◌≤◌, true, List, length};
 ghost use Rattle.lanes.specs.Syntax.{Body};
 ghost use Rattle.lanes.specs.Grid.{release as goes_on, can, turn};
-ghost use Rattle.store.specs.Layout.{Sized, room};
+ghost use Rattle.store.specs.Layout.{room};
 ghost use Rattle.store.specs.Lent.{Lined, phase_of_spec, grid_of};
 ghost use Rattle.machine.specs.Line.{Runs};
 ghost use Rattle.machine.specs.Moves.{LaneSettled, GroupSettled, WentOn};
@@ -12,7 +12,6 @@ use store::{Sizes, go_on, line_of, stand};
 
 // A lane that stands at an else or an end stands where that goes. Nothing else changes.
 pub fn settle_lane(steps: &[u32], lines: usize, z: Sizes, lanes: &mut [u32], g: usize, l: usize)
-    requires sized { Sized z }
     requires fit { room z ≤ length lanes.old }
     requires few { lines < 4294967295 }
     requires group { g < z.groups }
@@ -28,11 +27,11 @@ pub fn settle_lane(steps: &[u32], lines: usize, z: Sizes, lanes: &mut [u32], g: 
 
 // So do all lanes of a group.
 fn settle_group(steps: &[u32], lines: usize, z: Sizes, lanes: &mut [u32], g: usize)
-    requires sized { Sized z }
     requires fit { room z ≤ length lanes.old }
     requires few { lines < 4294967295 }
     requires group { g < z.groups }
-    ensures { GroupSettled z steps.now lines g z.lanes lanes.old lanes.new }
+    ensures some { 0 < z.lanes }
+    ensures settled { GroupSettled z steps.now lines g z.lanes lanes.old lanes.new }
 {
     for l in 0..z.lanes {
         settle_lane(steps, lines, z, lanes, g, l);
@@ -41,7 +40,6 @@ fn settle_group(steps: &[u32], lines: usize, z: Sizes, lanes: &mut [u32], g: usi
 
 // A group that can go on goes on.
 pub fn release(steps: &[u32], lines: usize, z: Sizes, lanes: &mut [u32], g: usize)
-    requires sized { Sized z }
     requires fit { room z ≤ length lanes.old }
     requires few { lines < 4294967290 }
     requires group { g < z.groups }

@@ -1,7 +1,7 @@
 // The turns that are written down, and behind them one lane after the other. A written turn that can't be done does nothing.
 ghost use Rattle.std.specs.Prelude.{◌≡◌, ℕ, ◌≤◌, List, length, IfSome};
 ghost use Rattle.lanes.specs.Syntax.{Body};
-ghost use Rattle.store.specs.Layout.{Sized, room};
+ghost use Rattle.store.specs.Layout.{room};
 ghost use Rattle.store.specs.Lent.{grid_of};
 ghost use Rattle.machine.specs.Line.{Runs};
 ghost use Rattle.machine.specs.Schedule.{Passed, CanDo};
@@ -14,7 +14,6 @@ use store::Sizes;
 
 // What a written turn names, if it can be done.
 fn choice_of(steps: &[u32], lines: usize, z: Sizes, lanes: &[u32], turn: Written) -> Option<Choice>
-    requires sized { Sized z }
     requires fit { room z ≤ length lanes.now }
     ensures { (at : ℕ → Body) (cs : List ℕ) → Runs z at steps.now lines lanes.now → IfSome result (λ x. CanDo z at lanes.now cs x) }
 {
@@ -59,7 +58,6 @@ fn next_written(
     turns: &[Written],
     from: usize,
 ) -> Option<Next>
-    requires sized { Sized z }
     requires fit { room z ≤ length lanes.now }
     ensures { (at : ℕ → Body) (cs : List ℕ) → Runs z at steps.now lines lanes.now → IfSome result (λ x. CanDo z at lanes.now cs x.choice) }
 {

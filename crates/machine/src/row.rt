@@ -2,7 +2,7 @@
 ghost use Rattle.std.specs.Prelude.{◌≡◌, ℕ, suc, ◌+◌, ◌*◌, ◌<◌, ◌≤◌, true, List, length};
 ghost use Rattle.lanes.specs.Syntax.{Body};
 ghost use Rattle.lanes.specs.Grid.{Grid, Turn};
-ghost use Rattle.store.specs.Layout.{Sized, room, cells_room};
+ghost use Rattle.store.specs.Layout.{room, cells_room};
 ghost use Rattle.store.specs.Lent.{Lent, Lined};
 ghost use Rattle.machine.specs.Sofar.{Sofar};
 ghost use Rattle.machine.specs.Line.{on, Loaded, LineDone};
@@ -30,7 +30,6 @@ fn lowest_of(mask: u32) -> usize
 
 // The lanes of the mask stand at a line.
 fn stand_all(z: Sizes, lanes: &mut [u32], row: Active, line: u32)
-    requires sized { Sized z }
     requires fit { room z ≤ length lanes.old }
     requires inside { RowIn z row.group row.start row.mask }
     ensures { RowStood z row.group row.start row.mask line 32 lanes.old lanes.new }
@@ -51,7 +50,6 @@ fn settle_row(
     row: Active,
     line: usize,
 ) -> usize
-    requires sized { Sized z }
     requires fit { room z ≤ length lanes.old }
     requires inside { RowIn z row.group row.start row.mask }
     requires few { lines < 4294967296 }

@@ -4,7 +4,7 @@ ghost use Rattle.lanes.specs.Syntax.{Body};
 ghost use Rattle.lanes.specs.Grid.{Grid, Turn};
 ghost use Rattle.lanes.specs.Promise.{Still};
 ghost use Rattle.lanes.specs.Told.{Shows};
-ghost use Rattle.store.specs.Layout.{Sized, room, cells_room};
+ghost use Rattle.store.specs.Layout.{room, cells_room};
 ghost use Rattle.store.specs.Lent.{Lent, grid_of, field_of};
 ghost use Rattle.machine.specs.Line.{Runs};
 ghost use Rattle.machine.specs.Verdict.{Over, Waiting, SetsOut, told_of};
@@ -17,7 +17,6 @@ use store::Sizes;
 
 // A lane of the group waits.
 fn waiting(steps: &[u32], lines: usize, z: Sizes, lanes: &[u32], g: usize) -> bool
-    requires sized { Sized z }
     requires fit { room z ≤ length lanes.now }
     requires group { g < z.groups }
     ensures { (at : ℕ → Body) (cs : List ℕ) → Runs z at steps.now lines lanes.now → Still z.lanes (grid_of z at lanes.now cs) → Waiting z at lanes.now g result }
@@ -34,7 +33,6 @@ fn waiting(steps: &[u32], lines: usize, z: Sizes, lanes: &[u32], g: usize) -> bo
 
 // What is told where nothing can be done: the field, or the first group that is stuck.
 pub fn over(steps: &[u32], lines: usize, z: Sizes, lanes: &[u32]) -> Verdict
-    requires sized { Sized z }
     requires fit { room z ≤ length lanes.now }
     ensures { (at : ℕ → Body) (cs : List ℕ) → Runs z at steps.now lines lanes.now → Still z.lanes (grid_of z at lanes.now cs) → Over z at lanes.now result }
 {

@@ -2,7 +2,7 @@
 ghost use Rattle.std.specs.Prelude.{◌≡◌, ℕ, ◌≤◌, List, length};
 ghost use Rattle.lanes.specs.Syntax.{Body};
 ghost use Rattle.lanes.specs.Grid.{Grid};
-ghost use Rattle.store.specs.Layout.{Sized, room};
+ghost use Rattle.store.specs.Layout.{room};
 ghost use Rattle.store.specs.Lent.{grid_of};
 ghost use Rattle.machine.specs.Line.{Runs};
 ghost use Rattle.machine.specs.Schedule.{Says};
@@ -28,7 +28,6 @@ pub trait Scheduler {
     ghost knows: { Self → ℕ → Grid → Type 0 };
 
     fn next(&mut self, steps: &[u32], lines: usize, z: Sizes, lanes: &[u32]) -> Option<Choice>
-        requires sized { Sized z }
         requires fit { room z ≤ length lanes.now }
         ensures { (at : ℕ → Body) (cs : List ℕ) → Runs z at steps.now lines lanes.now → knows self.old z.lanes (grid_of z at lanes.now cs) → Says knows self.new z at lanes.now cs result };
 }

@@ -6,7 +6,7 @@ use Rattle.std.proofs.lemmas.List.{get_or-append_right}
 use Rattle.lanes.specs.Step.{Lane, Memory}
 use Rattle.lanes.specs.Grid.{Group, Grid, begin, no_group, no_lane}
 use Rattle.store.specs.declared.Sizes.{Sizes}
-use Rattle.store.specs.Layout.{Sized, slots, room, base, place_of}
+use Rattle.store.specs.Layout.{slots, room, base, place_of}
 use Rattle.store.specs.Lent.{upto, slot_of, line_at, own_of, lane_at, phase_of_spec, group_at, field_of, memory_of, grid_of, Lined, Begun, Started}
 use Rattle.store.proofs.Upto.{upto-same, upto-replicate}
 use Rattle.store.proofs.Slots.{lane_is, place-lt}
@@ -27,7 +27,7 @@ memory-as a b x y p q = rw (p, q)
 grid-as : (a b : List Group) (x y : Memory) → a ≡ b → x ≡ y → ◌≡◌ {A = Grid} (record { groups_of = a; memory = x }) (record { groups_of = b; memory = y })
 grid-as a b x y p q = rw (p, q)
 
-module _ (z : Sizes) (k : Sized z) (cs ls' cs' : List ℕ) (lanes-clear : (i : ℕ) → i < room z → get_or ls' i 0 ≡ 0)
+module _ (z : Sizes) (some : 0 < z.lanes) (cs ls' cs' : List ℕ) (lanes-clear : (i : ℕ) → i < room z → get_or ls' i 0 ≡ 0)
     (cells-clear : (i : ℕ) → i < z.groups * z.shared → get_or cs' i 0 ≡ 0) (field-kept : (i : ℕ) → z.groups * z.shared ≤ i → get_or cs' i 0 ≡ get_or cs i 0) where
   words-clear : (g s l : ℕ) → g < z.groups → s < slots z → l < z.lanes → slot_of z ls' g s l ≡ 0
   unfolding slot_of
@@ -39,9 +39,7 @@ module _ (z : Sizes) (k : Sized z) (cs ls' cs' : List ℕ) (lanes-clear : (i : �
 
   phase-clear : (g : ℕ) → g < z.groups → phase_of_spec z ls' g ≡ 0
   unfolding phase_of_spec
-  phase-clear g hg =
-      let some : 0 < z.lanes = omega (arith, k.some_lane) in
-      rw (words-clear g 2 0 hg (omega arith) some, words-clear g 3 0 hg (omega arith) some)
+  phase-clear g hg = rw (words-clear g 2 0 hg (omega arith) some, words-clear g 3 0 hg (omega arith) some)
 
   lined-clear : (lines : ℕ) → 0 < lines → Lined z lines ls'
   unfolding Lined

@@ -4,7 +4,6 @@ use Rattle.std.proofs.lemmas.Bool.{both_ways, cases_Bool, cases_eq, eq-eqb, ne_e
 use Rattle.lanes.specs.Syntax as body
 use Rattle.lanes.specs.Syntax.{Body, at_barrier}
 use Rattle.store.specs.declared.Sizes.{Sizes}
-use Rattle.store.specs.Layout.{Sized}
 use Rattle.store.specs.Lent.{line_at, waiting_of_spec, ended_of, Aside}
 use Rattle.store.specs.Counts.{how_many, Counted, Tallied}
 
@@ -126,8 +125,8 @@ module _ (n start : ℕ) (m : ℕ → Bool) where
   many-row (suc i) f h there off same = row_step i (many-row i) f h there off same
 
 -- both counts are put, one after the other
-pub tallied : (z : Sizes) (g w e : ℕ) (ls ls' ls'' : List ℕ) → Sized z → Aside z g 4 0 w ls ls' → Aside z g 5 0 e ls' ls'' → Tallied z g w e ls ls''
-tallied z g w e ls ls' ls'' sized p q = let some = sized.some_lane in record {
+pub tallied : (z : Sizes) (g w e : ℕ) (ls ls' ls'' : List ℕ) → 0 < z.lanes → Aside z g 4 0 w ls ls' → Aside z g 5 0 e ls' ls'' → Tallied z g w e ls ls''
+tallied z g w e ls ls' ls'' some p q = record {
   waiting = q.rest g 4 0 (omega arith) (omega arith) (λ _ x _. omega arith) ∙ p.here;
   ended = q.here;
   rest = λ g' s l hs hl ne. q.rest g' s l hs hl (λ a b _. ne a (inr b)) ∙ p.rest g' s l hs hl (λ a b _. ne a (inl b));

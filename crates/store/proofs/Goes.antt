@@ -5,7 +5,7 @@ use Rattle.lanes.specs.Syntax.{Body, at_barrier, past_barrier, barrier}
 use Rattle.lanes.specs.Step.{Lane, goes_to}
 use Rattle.lanes.specs.Grid.{Group, turn, did, can, release, all_lanes, all_past, gone_on, no_group, no_lane}
 use Rattle.store.specs.declared.Sizes.{Sizes}
-use Rattle.store.specs.Layout.{Sized, slots, room, place_of}
+use Rattle.store.specs.Layout.{slots, room, place_of}
 use Rattle.store.specs.Lent.{upto, slot_of, line_at, own_of, lane_at, phase_of_spec, group_at, memory_of, grid_of, Lined, Aside, Raised}
 use Rattle.store.specs.Acts.{Further, Released}
 use Rattle.store.proofs.Upto.{upto_is, upto-at, upto-length, upto-same, upto-set}
@@ -13,11 +13,11 @@ use Rattle.store.proofs.Slots.{lane_is, lane-same, phase-same, slot_same, slot-o
 use Rattle.store.proofs.Grids.{the-group-is, groups-long, grid-memory, grid-kept, group_is}
 
 -- a word that the grid does not depend on
-pub put-aside : (z : Sizes) (g s l v : ℕ) (ls ls' : List ℕ) → Sized z → g < z.groups → 4 ≤ s → s < 128 → l < z.lanes → room z ≤ length ls →
+pub put-aside : (z : Sizes) (g s l v : ℕ) (ls ls' : List ℕ) → g < z.groups → 4 ≤ s → s < 128 → l < z.lanes → room z ≤ length ls →
     ls' ≡ set ls (place_of z g s l) v → Aside z g s l v ls ls'
-put-aside z g s l v ls ls' k hg h4 hs hl fit e =
+put-aside z g s l v ls ls' hg h4 hs hl fit e =
     let hz : s < slots z = omega arith in
-    let some : 0 < z.lanes = omega (arith, k.some_lane) in
+    let some : 0 < z.lanes = omega arith in
     let other : (g' s' l' : ℕ) → s' < slots z → l' < z.lanes → (g' ≡ g → s' ≡ s → l' ≡ l → ⊥) → slot_of z ls' g' s' l' ≡ slot_of z ls g' s' l' =
     λ g' s' l' hs' hl' ne. rw e (slot-other z g s l hz hl ls v g' s' l' hs' hl' ne) in
     record {
@@ -37,11 +37,10 @@ put-aside z g s l v ls ls' k hg h4 hs hl fit e =
 pub two-words : (n : ℕ) → n % 4294967296 + 4294967296 * (n / 4294967296) ≡ n
 two-words n = omega arith
 
-pub put-phase : (z : Sizes) (g a b : ℕ) (ls ls' : List ℕ) → Sized z → g < z.groups → room z ≤ length ls → a + 4294967296 * b ≡ phase_of_spec z ls g + 1 →
+pub put-phase : (z : Sizes) (g a b : ℕ) (ls ls' : List ℕ) → 0 < z.lanes → g < z.groups → room z ≤ length ls → a + 4294967296 * b ≡ phase_of_spec z ls g + 1 →
     ls' ≡ set (set ls (place_of z g 2 0) a) (place_of z g 3 0) b → Raised z g ls ls'
 unfolding phase_of_spec
-put-phase z g a b ls ls' k hg fit e el =
-    let some : 0 < z.lanes = omega (arith, k.some_lane) in
+put-phase z g a b ls ls' some hg fit e el =
     let fit' : room z ≤ length (set ls (place_of z g 2 0) a) = rw length-set fit in
     let low : slot_of z ls' g 2 0 ≡ a = rw el (slot-other z g 3 0 (omega arith) some (set ls (place_of z g 2 0) a) b g 2 0 (omega arith) some (λ _ x _. omega arith) ∙ slot_same z g 2 0 (omega arith) some ls a hg fit) in
     let high : slot_of z ls' g 3 0 ≡ b = rw el (slot_same z g 3 0 (omega arith) some (set ls (place_of z g 2 0) a) b hg fit') in
@@ -76,9 +75,8 @@ pub further-line : (z : Sizes) (g l : ℕ) (ls ls' : List ℕ) → l < z.lanes �
 unfolding line_at
 further-line z g l ls ls' hl f = f.rest g 0 l (omega arith) hl (λ _ _ h. omega arith)
 
-pub further-phase : (z : Sizes) (g l : ℕ) (ls ls' : List ℕ) → Sized z → Further z g l ls ls' → phase_of_spec z ls' g ≡ phase_of_spec z ls g
-further-phase z g l ls ls' k f =
-    let some : 0 < z.lanes = omega (arith, k.some_lane) in
+pub further-phase : (z : Sizes) (g l : ℕ) (ls ls' : List ℕ) → 0 < z.lanes → Further z g l ls ls' → phase_of_spec z ls' g ≡ phase_of_spec z ls g
+further-phase z g l ls ls' some f =
     phase-same z ls ls' g (f.rest g 2 0 (omega arith) some (λ _ b _. omega arith)) (f.rest g 3 0 (omega arith) some (λ _ b _. omega arith))
 
 -- lists of lanes
@@ -98,7 +96,7 @@ past-at [] i h = absurd (not-suc-le-zero h)
 past-at (x ∷ xs) zero h = refl
 past-at (x ∷ xs) (suc i) h = past-at xs i (omega arith)
 
-module _ (z : Sizes) (k : Sized z) (g : ℕ) (hg : g < z.groups) (ls ls' ls'' : List ℕ) (f : Further z g z.lanes ls ls') (r : Raised z g ls' ls'') where
+module _ (z : Sizes) (some : 0 < z.lanes) (g : ℕ) (hg : g < z.groups) (ls ls' ls'' : List ℕ) (f : Further z g z.lanes ls ls') (r : Raised z g ls' ls'') where
   slot-as : (g' s l : ℕ) → s < slots z → l < z.lanes → (g' ≡ g → (s ≡ 0) ⊎ (s ≡ 2) ⊎ (s ≡ 3) → ⊥) → slot_of z ls'' g' s l ≡ slot_of z ls g' s l
   slot-as g' s l hs hl ne = r.rest g' s l hs hl (λ a b. ne a (inr b)) ∙ f.rest g' s l hs hl (λ a b _. ne a (inl b))
 
@@ -112,11 +110,10 @@ module _ (z : Sizes) (k : Sized z) (g : ℕ) (hg : g < z.groups) (ls ls' ls'' : 
 
   phase-on : phase_of_spec z ls'' g ≡ phase_of_spec z ls g + 1
   phase-on =
-      r.phase ∙ ap (λ n. n + 1) (further-phase z g z.lanes ls ls' k f)
+      r.phase ∙ ap (λ n. n + 1) (further-phase z g z.lanes ls ls' some f)
 
   phase-else : (g' : ℕ) → (g' ≡ g → ⊥) → phase_of_spec z ls'' g' ≡ phase_of_spec z ls g'
   phase-else g' ne =
-      let some : 0 < z.lanes = omega (arith, k.some_lane) in
       phase-same z ls ls'' g' (slot-as g' 2 0 (omega arith) some (λ a _. ne a)) (slot-as g' 3 0 (omega arith) some (λ a _. ne a))
 
   lane-as : (at : ℕ → Body) (g' l : ℕ) → l < z.lanes → (g' ≡ g → ⊥) → lane_at z at ls'' g' l ≡ lane_at z at ls g' l

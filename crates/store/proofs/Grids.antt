@@ -5,7 +5,7 @@ use Rattle.lanes.specs.Syntax.{Body}
 use Rattle.lanes.specs.Step.{Lane, goes_to, Memory, Act, act, lane_of, after, touched, stepping}
 use Rattle.lanes.specs.Grid.{Group, of, turn, did, can, the_group, the_lane, the_act, with_lane, no_group, no_lane, marks, marks_at}
 use Rattle.store.specs.declared.Sizes.{Sizes}
-use Rattle.store.specs.Layout.{Sized, size, place_of, room}
+use Rattle.store.specs.Layout.{size, place_of, room}
 use Rattle.store.specs.Lent.{lane_at, phase_of_spec, group_at, memory_of, grid_of, Only, line_at, Settled}
 use Rattle.store.proofs.Upto.{upto-at, upto-length, upto-same, upto-set}
 use Rattle.store.proofs.Slots.{lane-same, phase-same, only-slot, lane-line, lined-line, slot-other, slot_same}
@@ -48,20 +48,20 @@ group_is xs ys p q a b = rw (a, b)
 pub only-lane : (z : Sizes) (at : ℕ → Body) (ls ls' : List ℕ) (g l g' l' : ℕ) → Only z g l ls ls' → l' < z.lanes → (g' ≡ g → l' ≡ l → ⊥) → lane_at z at ls' g' l' ≡ lane_at z at ls g' l'
 only-lane z at ls ls' g l g' l' only h ne = lane-same z at ls ls' g' l' (λ s hs _. only.others g' s l' hs h ne)
 
-pub only-phase : (z : Sizes) (ls ls' : List ℕ) (g l g' : ℕ) → Sized z → Only z g l ls ls' → phase_of_spec z ls' g' ≡ phase_of_spec z ls g'
+pub only-phase : (z : Sizes) (ls ls' : List ℕ) (g l g' : ℕ) → l < z.lanes → Only z g l ls ls' → phase_of_spec z ls' g' ≡ phase_of_spec z ls g'
 only-phase z ls ls' g l g' k only =
-    let h : 0 < z.lanes = omega (arith, k.some_lane) in
+    let h : 0 < z.lanes = omega arith in
     phase-same z ls ls' g' (only.words g' 2 0 (omega arith) (omega arith) h) (only.words g' 3 0 (omega arith) (omega arith) h)
 
 -- the law: slices of which one lane and the memory are what the act leaves stand for the grid one turn on
-module _ (z : Sizes) (at : ℕ → Body) (ls cs ls' cs' : List ℕ) (g l : ℕ) (k : Sized z) (hg : g < z.groups) (hl : l < z.lanes) (only : Only z g l ls ls') where
+module _ (z : Sizes) (at : ℕ → Body) (ls cs ls' cs' : List ℕ) (g l : ℕ) (hg : g < z.groups) (hl : l < z.lanes) (only : Only z g l ls ls') where
   grid-same : (y : Lane) (m : Memory) → lane_at z at ls' g l ≡ y → memory_of z cs' ≡ m →
       grid_of z at ls' cs' ≡ record { groups_of = set (grid_of z at ls cs).groups_of g (with_lane (group_at z at ls g) l y); memory = m }
   unfolding grid_of group_at
   grid-same y m here mem =
       let gs = upto-set no_group (group_at z at ls) (group_at z at ls') z.groups g (with_lane (group_at z at ls g) l y)
-      (group_is _ _ _ _ (upto-set no_lane (lane_at z at ls g) (lane_at z at ls' g) z.lanes l y here (λ j h ne. only-lane z at ls ls' g l g j only h (λ _ e. ne e))) (only-phase z ls ls' g l g k only))
-      (λ i h ne. group_is _ _ _ _ (upto-same no_lane _ _ z.lanes (λ j h. only-lane z at ls ls' g l i j only h (λ e _. ne e))) (only-phase z ls ls' g l i k only))
+      (group_is _ _ _ _ (upto-set no_lane (lane_at z at ls g) (lane_at z at ls' g) z.lanes l y here (λ j h ne. only-lane z at ls ls' g l g j only h (λ _ e. ne e))) (only-phase z ls ls' g l g hl only))
+      (λ i h ne. group_is _ _ _ _ (upto-same no_lane _ _ z.lanes (λ j h. only-lane z at ls ls' g l i j only h (λ e _. ne e))) (only-phase z ls ls' g l i hl only))
       in rw (gs, mem)
 
   module _ (a : Act) (steps : stepping (lane_at z at ls g l).left ≡ true) (is : act z.lanes l g z.field z.shared (lane_at z at ls g l) ≡ a) where
@@ -90,7 +90,7 @@ stays : (x : Lane) (b : Body) → b ≡ x.left → goes_to x b ≡ x
 stays x b e = rw e
 
 -- one lane stands elsewhere
-module _ (z : Sizes) (k : Sized z) (g l line : ℕ) (hg : g < z.groups) (hl : l < z.lanes) (ls ls' : List ℕ) (fit : room z ≤ length ls) (e : ls' ≡ set ls (place_of z g 0 l) line) where
+module _ (z : Sizes) (g l line : ℕ) (hg : g < z.groups) (hl : l < z.lanes) (ls ls' : List ℕ) (fit : room z ≤ length ls) (e : ls' ≡ set ls (place_of z g 0 l) line) where
   stood : Only z g l ls ls'
   stood = only-slot z g 0 l ls ls' line (omega arith) (inl (omega arith)) hl e
 
@@ -114,5 +114,5 @@ module _ (z : Sizes) (k : Sized z) (g l line : ℕ) (hg : g < z.groups) (hl : l 
         here = rw e (slot_same z g 0 l (omega arith) hl ls line hg fit);
         same = λ s h1 hs. rw e (slot-other z g 0 l (omega arith) hl ls line g s l hs hl (λ _ x _. omega arith));
         lined = λ lines h inl'. rw e (lined-line z g l lines hl ls line fit h inl');
-        grid = λ at cs q. grid-kept z at ls ls' cs (λ g' l' a b. stood-lane at q g' l' a b) (λ g' _. only-phase z ls ls' g l g' k stood);
+        grid = λ at cs q. grid-kept z at ls ls' cs (λ g' l' a b. stood-lane at q g' l' a b) (λ g' _. only-phase z ls ls' g l g' hl stood);
       }

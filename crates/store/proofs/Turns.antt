@@ -78,8 +78,8 @@ module _ (z : Sizes) (at : ℕ → Body) (ls cs : List ℕ) (g l : ℕ) (lent : 
   turned ls' cs' r a steps did only this mem told wrong right =
       record {
         could = can_step_spec z at ls cs g l hg hl steps;
-        grid = turn_is z at ls cs ls' cs' g l lent.sized hg hl only a steps did this mem;
-        touch = rw told (marks-are z at ls cs ls' cs' g l lent.sized hg hl only a steps did);
+        grid = turn_is z at ls cs ls' cs' g l hg hl only a steps did this mem;
+        touch = rw told (marks-are z at ls cs ls' cs' g l hg hl only a steps did);
         wrong = λ e. ap (λ (x : Lane). x.wrong) this ∙ wrong e;
         right = λ e. ap (λ (x : Lane). x.wrong) this ∙ right e;
       }

@@ -1,3 +1,4 @@
+pub mod Numbers
 pub mod Layout
 pub mod Lent
 pub mod Acts

@@ -1,13 +1,13 @@
 // The start.
 ghost use Rattle.std.specs.Prelude.{◌≡◌, ℕ, ◌+◌, ◌*◌, ◌<◌, ◌≤◌, length, slice_index};
-ghost use Rattle.store.specs.Layout.{Sized, room, cells_room};
+ghost use Rattle.store.specs.Layout.{room, cells_room};
 ghost use Rattle.store.specs.Lent.{Lent, Started};
 
 use crate::Sizes;
 
 // How many words the lanes want.
+#[tactic(auto, unfolding(crate::specs::Layout::room))]
 pub fn room_of(z: Sizes) -> usize
-    requires { Sized z }
     ensures { result ≡ room z }
 {
     z.groups * (128 + z.owns) * z.lanes

@@ -14,12 +14,13 @@ pub use acts::{owner, perform};
 pub use fresh::{room_of, start};
 pub use groups::{go_on, phase_of, put_word, word_of};
 pub use rows::{branch_row, copy_cells, fill_row, put_row};
+use std::marker::Model;
 pub use tally::{ended_of, put_counts, waiting_of};
 pub use words::{
     go_wrong, is_wrong, line_of, own_base, own_of, place, put_own, spot, spot_row, stand,
 };
 
-// How many groups, lanes in a group, own numbers of a lane, cells of a group, cells of the field.
+// How many groups, lanes in a group, own numbers of a lane, cells of a group, cells of the field. All of them are in bounds.
 #[derive(Clone, Copy)]
 pub struct Sizes {
     pub groups: usize,
@@ -27,6 +28,21 @@ pub struct Sizes {
     pub owns: usize,
     pub shared: usize,
     pub field: usize,
+}
+
+// A clause sees the five numbers alone: definitions and theorems speak of sizes out of bounds too.
+impl Model for Sizes {
+    ghost use Rattle.store.specs.Numbers.{Numbers};
+
+    ghost Value = { Numbers };
+
+    ghost use Rattle.store.specs.Layout.{Sized};
+
+    ghost view = { λ s. record { groups = s.groups; lanes = s.lanes; owns = s.owns; shared = s.shared; field = s.field } };
+
+    ghost invariant = { λ s. Sized (record { groups = s.groups; lanes = s.lanes; owns = s.owns; shared = s.shared; field = s.field }) };
+
+    ghost inverse = { λ v. record { groups = v.groups; lanes = v.lanes; owns = v.owns; shared = v.shared; field = v.field } };
 }
 
 // What a lane has to do next, without its expressions: which own number is set, whether the cell is the field's, and the line behind.

@@ -1,7 +1,7 @@
 // One slot of neighbouring lanes, which are neighbouring words: written as a whole.
 ghost use Rattle.std.specs.Prelude.{◌≡◌, ℕ, ◌+◌, ◌<◌, ◌≤◌, length, if◌then◌else◌, nat_eq, slice_index};
 ghost use Rattle.std.proofs.Math.Seq.{paste};
-ghost use Rattle.store.specs.Layout.{Sized, slots, room};
+ghost use Rattle.store.specs.Layout.{slots, room};
 ghost use Rattle.store.specs.Rows.{slot_row, put_row_spec};
 
 use crate::Sizes;
@@ -43,7 +43,6 @@ pub fn copy_cells(cells: &mut [u32], i: usize, ys: &[u32])
 
 // Lanes of group g from lane l on, one for each of the numbers: slot s of each is its number.
 fn copy_row(z: Sizes, lanes: &mut [u32], g: usize, s: usize, l: usize, xs: &[u32])
-    requires sized { Sized z }
     requires fit { room z ≤ length lanes.old }
     requires group { g < z.groups }
     requires slot { s < slots z }
@@ -57,7 +56,6 @@ fn copy_row(z: Sizes, lanes: &mut [u32], g: usize, s: usize, l: usize, xs: &[u32
 
 // Slot s of the n lanes of group g from lane l on is v.
 pub fn fill_row(z: Sizes, lanes: &mut [u32], g: usize, s: usize, l: usize, n: usize, v: u32)
-    requires sized { Sized z }
     requires fit { room z ≤ length lanes.old }
     requires group { g < z.groups }
     requires slot { s < slots z }
@@ -71,7 +69,6 @@ pub fn fill_row(z: Sizes, lanes: &mut [u32], g: usize, s: usize, l: usize, n: us
 
 // Lanes of group g from lane l on, one for each of the numbers: each stands at `no` if its number is 0, else at `yes`.
 pub fn branch_row(z: Sizes, lanes: &mut [u32], g: usize, l: usize, xs: &[u32], yes: u32, no: u32)
-    requires sized { Sized z }
     requires fit { room z ≤ length lanes.old }
     requires group { g < z.groups }
     requires lane { l < z.lanes }
@@ -84,7 +81,6 @@ pub fn branch_row(z: Sizes, lanes: &mut [u32], g: usize, l: usize, xs: &[u32], y
 
 // Lanes of group g from lane l on, one for each of the numbers: own number k of each is its number, and each stands at a line.
 pub fn put_row(z: Sizes, lanes: &mut [u32], g: usize, l: usize, k: u32, xs: &[u32], line: u32)
-    requires sized { Sized z }
     requires fit { room z ≤ length lanes.old }
     requires group { g < z.groups }
     requires lane { l < z.lanes }

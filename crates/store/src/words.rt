@@ -1,14 +1,14 @@
 // The words of a lane and the places of cells. Each function reads or writes one place, or two.
 ghost use Rattle.std.specs.Prelude.{◌≡◌, ℕ, ◌+◌, ◌*◌, ◌<◌, ◌≤◌, Bool, true, List, length, MatchOption, ◌==◌, slice_index, slice_set};
 ghost use Rattle.lanes.specs.Syntax.{Body};
-ghost use Rattle.store.specs.Layout.{Sized, slots, place_of, room, base, size, whose, cells_room};
+ghost use Rattle.store.specs.Layout.{slots, place_of, room, base, size, whose, cells_room};
 ghost use Rattle.store.specs.Lent.{slot_of, line_at, own_of, Settled};
 
 use crate::Sizes;
 
 // The place of slot s of lane l of group g.
+#[tactic(auto, unfolding(crate::specs::Layout::place_of))]
 pub fn place(z: Sizes, g: usize, s: usize, l: usize) -> usize
-    requires sized { Sized z }
     requires group { g < z.groups }
     requires slot { s < slots z }
     requires lane { l < z.lanes }
@@ -19,8 +19,8 @@ pub fn place(z: Sizes, g: usize, s: usize, l: usize) -> usize
 }
 
 // Where own numbers lie: own number k of lane l + i of group g is at this place, k times the lanes and i further.
+#[tactic(auto, unfolding(crate::specs::Layout::place_of))]
 pub fn own_base(z: Sizes, g: usize, l: usize) -> usize
-    requires sized { Sized z }
     requires group { g < z.groups }
     requires lane { l < z.lanes }
     ensures { result ≡ place_of z g 128 l }
@@ -29,8 +29,8 @@ pub fn own_base(z: Sizes, g: usize, l: usize) -> usize
 }
 
 // The place of a cell of the field, or of group g, if it is there.
+#[tactic(auto, unfolding(crate::specs::Layout::size, crate::specs::Layout::base))]
 pub fn spot(z: Sizes, field: bool, g: usize, c: u32) -> Option<usize>
-    requires sized { Sized z }
     requires group { g < z.groups }
     ensures { MatchOption result (size z (whose field g) ≤ c) (λ i. (i ≡ base z (whose field g) + c) × (c < size z (whose field g)) × (i < cells_room z)) }
 {
@@ -48,6 +48,7 @@ pub fn spot(z: Sizes, field: bool, g: usize, c: u32) -> Option<usize>
 }
 
 // How many cells the field has, or a group.
+#[tactic(auto, unfolding(crate::specs::Layout::size))]
 fn many_cells(z: Sizes, field: bool, g: usize) -> usize
     ensures { result ≡ size z (whose field g) }
 {
@@ -56,7 +57,6 @@ fn many_cells(z: Sizes, field: bool, g: usize) -> usize
 
 // The place of n neighbouring cells of the field, or of group g, from cell c on, if all of them are there.
 pub fn spot_row(z: Sizes, field: bool, g: usize, c: u32, n: usize) -> Option<usize>
-    requires sized { Sized z }
     requires group { g < z.groups }
     requires few { (0 < n) × (n ≤ 1024) }
     ensures { MatchOption result (size z (whose field g) < c + n) (λ i. (i ≡ base z (whose field g) + c) × (c + n ≤ size z (whose field g)) × (i + n ≤ cells_room z)) }
@@ -73,7 +73,6 @@ pub fn spot_row(z: Sizes, field: bool, g: usize, c: u32, n: usize) -> Option<usi
 
 // The line at which the lane stands.
 pub fn line_of(z: Sizes, lanes: &[u32], g: usize, l: usize) -> u32
-    requires sized { Sized z }
     requires fit { room z ≤ length lanes.now }
     requires group { g < z.groups }
     requires lane { l < z.lanes }
@@ -84,7 +83,6 @@ pub fn line_of(z: Sizes, lanes: &[u32], g: usize, l: usize) -> u32
 
 // Its own number k.
 pub fn own_of(z: Sizes, lanes: &[u32], g: usize, l: usize, k: usize) -> u32
-    requires sized { Sized z }
     requires fit { room z ≤ length lanes.now }
     requires group { g < z.groups }
     requires lane { l < z.lanes }
@@ -96,7 +94,6 @@ pub fn own_of(z: Sizes, lanes: &[u32], g: usize, l: usize, k: usize) -> u32
 
 // Whether it went wrong.
 pub fn is_wrong(z: Sizes, lanes: &[u32], g: usize, l: usize) -> bool
-    requires sized { Sized z }
     requires fit { room z ≤ length lanes.now }
     requires group { g < z.groups }
     requires lane { l < z.lanes }
@@ -107,7 +104,6 @@ pub fn is_wrong(z: Sizes, lanes: &[u32], g: usize, l: usize) -> bool
 
 // The lane stands at a line. Where as much is left there as was left where it stood, the grid stays what it is.
 pub fn stand(z: Sizes, lanes: &mut [u32], g: usize, l: usize, line: u32)
-    requires sized { Sized z }
     requires fit { room z ≤ length lanes.old }
     requires group { g < z.groups }
     requires lane { l < z.lanes }
@@ -119,7 +115,6 @@ pub fn stand(z: Sizes, lanes: &mut [u32], g: usize, l: usize, line: u32)
 
 // Own number k is v, and the lane stands at a line.
 pub fn put_own(z: Sizes, lanes: &mut [u32], g: usize, l: usize, k: u32, v: u32, line: u32)
-    requires sized { Sized z }
     requires fit { room z ≤ length lanes.old }
     requires group { g < z.groups }
     requires lane { l < z.lanes }
@@ -132,7 +127,6 @@ pub fn put_own(z: Sizes, lanes: &mut [u32], g: usize, l: usize, k: u32, v: u32, 
 
 // The lane is wrong, and stands where nothing is left.
 pub fn go_wrong(z: Sizes, lanes: &mut [u32], g: usize, l: usize, stop: u32)
-    requires sized { Sized z }
     requires fit { room z ≤ length lanes.old }
     requires group { g < z.groups }
     requires lane { l < z.lanes }

@@ -1,4 +1,4 @@
-use Rattle.calls.proofs.Planning.{text-refused, field-refused, short-refused, taken, plans}
+use Rattle.calls.proofs.Planning.{text-refused, field-refused, short-refused, taken, plans, plan-sized}
 use Rattle.calls.proofs.plan.make_plan.Goals as goal
 
 pub returns-in-Err : goal.returns-in-Err
@@ -21,3 +21,6 @@ returns-in-Ok-check_sizes c =
       is = taken c.args.text.now c.args.bytes.now c.args.room c.in-Ok.shape c.in-Ok-read_field.header tt c.in-Ok.ensures.walk c.in-Ok-read_field.ensures.value c.in-Ok-check_sizes.ensures;
       known = plans c.args.text.now c.args.bytes.now c.args.room c.in-Ok.shape c.in-Ok-read_field.header tt c.in-Ok.ensures.taken c.in-Ok-read_field.ensures.field c.in-Ok-check_sizes.ensures;
     }
+
+pub invariant_of-sizes : goal.invariant_of-sizes
+invariant_of-sizes c = plan-sized c.args.text.now c.args.bytes.now c.in-Ok.shape c.in-Ok-read_field.header c.in-Ok.ensures.taken c.in-Ok-read_field.ensures.field

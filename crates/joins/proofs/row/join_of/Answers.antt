@@ -3,13 +3,13 @@ use Rattle.joins.proofs.Stackframes.{lane-there, join-words}
 use Rattle.joins.proofs.row.join_of.Goals as goal
 
 pub word_of-requires : goal.word_of-requires
-word_of-requires c = let there = lane-there c.args.z c.args.start c.args.k c.requires.there in record { sized = c.requires.sized; fit = c.requires.fit; group = c.requires.row.group; slot = omega arith; lane = there }
+word_of-requires c = let there = lane-there c.args.z c.args.start c.args.k c.requires.there in record { fit = c.requires.fit; group = c.requires.row.group; slot = omega arith; lane = there }
 
 pub word_of-requires-2 : goal.word_of-requires-2
-word_of-requires-2 c = let there = lane-there c.args.z c.args.start c.args.k c.requires.there in record { sized = c.requires.sized; fit = c.requires.fit; group = c.requires.row.group; slot = omega arith; lane = there }
+word_of-requires-2 c = let there = lane-there c.args.z c.args.start c.args.k c.requires.there in record { fit = c.requires.fit; group = c.requires.row.group; slot = omega arith; lane = there }
 
 pub word_of-requires-3 : goal.word_of-requires-3
-word_of-requires-3 c = let there = lane-there c.args.z c.args.start c.args.k c.requires.there in record { sized = c.requires.sized; fit = c.requires.fit; group = c.requires.row.group; slot = omega arith; lane = there }
+word_of-requires-3 c = let there = lane-there c.args.z c.args.start c.args.k c.requires.there in record { fit = c.requires.fit; group = c.requires.row.group; slot = omega arith; lane = there }
 
 pub returns : goal.returns
 returns c =

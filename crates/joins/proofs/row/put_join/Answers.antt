@@ -4,13 +4,13 @@ use Rattle.joins.proofs.Stackmoves.{join-put}
 use Rattle.joins.proofs.row.put_join.Goals as goal
 
 pub put_word-requires : goal.put_word-requires
-put_word-requires c = let there = lane-there c.args.z c.args.start c.args.k c.requires.there in record { sized = c.requires.sized; fit = omega arith; group = c.requires.row.group; slot = (omega arith, omega arith); lane = there }
+put_word-requires c = let there = lane-there c.args.z c.args.start c.args.k c.requires.there in record { fit = omega arith; group = c.requires.row.group; slot = (omega arith, omega arith); lane = there }
 
 pub put_word-requires-2 : goal.put_word-requires-2
-put_word-requires-2 c = let there = lane-there c.args.z c.args.start c.args.k c.requires.there in record { sized = c.requires.sized; fit = omega arith; group = c.requires.row.group; slot = (omega arith, omega arith); lane = there }
+put_word-requires-2 c = let there = lane-there c.args.z c.args.start c.args.k c.requires.there in record { fit = omega arith; group = c.requires.row.group; slot = (omega arith, omega arith); lane = there }
 
 pub put_word-requires-3 : goal.put_word-requires-3
-put_word-requires-3 c = let there = lane-there c.args.z c.args.start c.args.k c.requires.there in record { sized = c.requires.sized; fit = omega arith; group = c.requires.row.group; slot = (omega arith, omega arith); lane = there }
+put_word-requires-3 c = let there = lane-there c.args.z c.args.start c.args.k c.requires.there in record { fit = omega arith; group = c.requires.row.group; slot = (omega arith, omega arith); lane = there }
 
 pub returns : goal.returns
 returns c =

@@ -10,4 +10,4 @@ invariant-loop-g v = (at : ℕ → Body) (cs : List ℕ) → Runs v.z at v.steps
     Passed v.z.lanes (grid_of v.z at v.lanes cs) v.g v.from
 
 abbrev pub decreases-loop-g : goal.decreases-loop-g
-decreases-loop-g v = v.z.groups - v.g
+decreases-loop-g v = v.groups - v.g

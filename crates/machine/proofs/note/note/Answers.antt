@@ -7,18 +7,18 @@ use Rattle.machine.proofs.note.note.Goals as goal
 
 pub returns-in-Quiet : goal.returns-in-Quiet
 returns-in-Quiet c = record {
-  after = λ at d ts ls cs ls' cs' k. noted-quiet c.args.z at d ts ls cs c.args.kept.now ls' cs' c.args.group c.args.lane c.args.phase
-      (subst (λ (x : Deed). Doing c.args.z at d ts ls cs c.args.kept.now ls' cs' c.args.group c.args.lane c.args.phase x) c.in-Quiet.is k);
+  after = λ z at d ts ls cs ls' cs' k. noted-quiet z at d ts ls cs c.args.kept.now ls' cs' c.args.group c.args.lane c.args.phase
+      (subst (λ (x : Deed). Doing z at d ts ls cs c.args.kept.now ls' cs' c.args.group c.args.lane c.args.phase x) c.in-Quiet.is k);
   names = tt;
 }
 
 pub returns-in-Wrong : goal.returns-in-Wrong
-returns-in-Wrong c = record { after = λ at d ts ls cs ls' cs' k. noted-wrong c.args.z at d ts ls cs c.args.kept.now ls' cs' c.args.group c.args.lane c.args.phase c.args.deed k (rw c.in-Wrong.is refl); names = (refl, refl) }
+returns-in-Wrong c = record { after = λ z at d ts ls cs ls' cs' k. noted-wrong z at d ts ls cs c.args.kept.now ls' cs' c.args.group c.args.lane c.args.phase c.args.deed k (rw c.in-Wrong.is refl); names = (refl, refl) }
 
 pub returns-in-None : goal.returns-in-None
 returns-in-None c = record {
-  after = λ at d ts ls cs ls' cs' k.
-      let z = c.args.z in let g = c.args.group in let l = c.args.lane in let p = c.args.phase in
+  after = λ z at d ts ls cs ls' cs' k.
+      let g = c.args.group in let l = c.args.lane in let p = c.args.phase in
       let s = c.in-Touched.seen in let who = c.who_of-who.result in let is = c.who_of-who.ensures in
       let ks = c.args.kept.now in
       let k' = subst (λ (x : Deed). Doing z at d ts ls cs ks ls' cs' g l p x) c.in-Touched.is k in
@@ -31,8 +31,8 @@ returns-in-None c = record {
 
 pub returns-in-Some : goal.returns-in-Some
 returns-in-Some c = record {
-  after = λ at d ts ls cs ls' cs' k.
-      let z = c.args.z in let g = c.args.group in let l = c.args.lane in let p = c.args.phase in
+  after = λ z at d ts ls cs ls' cs' k.
+      let g = c.args.group in let l = c.args.lane in let p = c.args.phase in
       let s = c.in-Touched.seen in let who = c.who_of-who.result in let is = c.who_of-who.ensures in
       let ks = c.args.kept.now in
       let k' = subst (λ (x : Deed). Doing z at d ts ls cs ks ls' cs' g l p x) c.in-Touched.is k in

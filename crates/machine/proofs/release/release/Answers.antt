@@ -4,11 +4,10 @@ use Rattle.machine.proofs.release.release.Goals as goal
 
 pub go_on-requires : goal.go_on-requires
 go_on-requires c =
-    let s = c.settle_group.ensures in
-    let e = same-phase c.args.z c.args.steps.now c.args.lines c.args.g c.args.lanes.now c.settle_group.new.lanes c.settle_group.new.lanes c.requires.sized c.requires.group s c.args.g in
+    let s = c.settle_group.ensures.settled in
+    let e = same-phase c.args.z c.args.steps.now c.args.lines c.args.g c.args.lanes.now c.settle_group.new.lanes c.settle_group.new.lanes c.settle_group.ensures.some c.requires.group s c.args.g in
     let p = c.requires.phase in let f = c.requires.few in
     record {
-      sized = c.requires.sized;
       fit = let h = c.requires.fit in let k = c.settle_group.auto.lanes in omega arith;
       group = c.requires.group;
       phase = omega arith;
@@ -16,4 +15,4 @@ go_on-requires c =
     }
 
 pub returns : goal.returns
-returns c = went_on c.args.z c.args.steps.now c.args.lines c.args.g c.args.lanes.now c.settle_group.new.lanes c.go_on.new.lanes c.requires.sized c.requires.group c.settle_group.ensures c.go_on.ensures
+returns c = went_on c.args.z c.args.steps.now c.args.lines c.args.g c.args.lanes.now c.settle_group.new.lanes c.go_on.new.lanes c.settle_group.ensures.some c.requires.group c.settle_group.ensures.settled c.go_on.ensures

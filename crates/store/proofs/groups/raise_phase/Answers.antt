@@ -5,5 +5,5 @@ use Rattle.store.proofs.groups.raise_phase.Goals as goal
 pub returns : goal.returns
 returns c =
     let n = c.phase_of-next.result + 1 in
-    put-phase c.args.z c.args.g (n % 4294967296) (n / 4294967296) c.args.lanes.now _ c.requires.sized c.requires.group c.requires.fit
-    (two-words n ∙ ap (λ m. m + 1) c.phase_of-next.ensures) (simp (c.place.ensures.is, c.place-2.ensures.is))
+    put-phase c.args.z c.args.g (n % 4294967296) (n / 4294967296) c.args.lanes.now _ c.first_place.ensures.some c.requires.group c.requires.fit
+    (two-words n ∙ ap (λ m. m + 1) c.phase_of-next.ensures) (simp (c.first_place.ensures.is, c.first_place-2.ensures.is))

@@ -5,4 +5,4 @@ use Rattle.store.proofs.words.stand.Goals as goal
 pub returns : goal.returns
 returns c =
     let e = ap (λ i. set c.args.lanes.now i c.args.line) c.place.ensures.is in
-    record { is = e; settled = settled c.args.z c.requires.sized c.args.g c.args.l c.args.line c.requires.group c.requires.lane c.args.lanes.now _ c.requires.fit e }
+    record { is = e; settled = settled c.args.z c.args.g c.args.l c.args.line c.requires.group c.requires.lane c.args.lanes.now _ c.requires.fit e }

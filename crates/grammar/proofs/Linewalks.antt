@@ -12,7 +12,7 @@ use Rattle.grammar.specs.declared.lines.Line.{Line}
 use Rattle.grammar.specs.declared.lines.Line.TheVariants as line
 use Rattle.grammar.specs.declared.lines.Lined.{Lined}
 use Rattle.grammar.specs.Words.{WordEnd}
-use Rattle.grammar.proofs.Walks.{word-end-run}
+use Rattle.grammar.proofs.Walks.{word_end_run}
 use Rattle.grammar.proofs.Atoms.{then-err, then_ok}
 
 pub closed-err : (text : List ℕ) (l : Line) (i : ℕ) (e : Refusal) → Err e ≡ bytes_at text (codes "\n") i → Err e ≡ closed text l i
@@ -42,7 +42,7 @@ module _ (find : List ℕ → Option ℕ) (text : List ℕ) (i : ℕ) where
 
   pub assign_cell : (k j w : ℕ) (f : Bool) → Ok j ≡ bytes_at text (codes " = ") i → Some f ≡ cell_kind_spec (key_at text j) → WordEnd text j w
       → and_then (bytes_at text (codes " ") w) (λ e. with_expr_spec find text (line.Read f k e) e) ≡ assign_at find text k i
-  assign_cell k j w f h e we = rw (word-end-run text j w we) (assign-ok k j (Some f) h e)
+  assign_cell k j w f h e we = rw (word_end_run text j w we) (assign-ok k j (Some f) h e)
 
   pub write-err : (f : Bool) (e : Refusal) → Err e ≡ bytes_at text (codes " ") i → Err e ≡ write_at find text f i
   unfolding write_at

@@ -1,19 +1,20 @@
 -- What the code finds at an index is what the functions of specs/Walk say.
-use Rattle.std.proofs.Common.{◌≡◌, ℕ, zero, suc, ◌+◌, ◌-◌, ◌<◌, ◌≤◌, Bool, true, false, cond, ◌⊎◌, List, [], ◌∷◌, length, get_or, take, drop, Some, None, Ok, Err, codes, Decides, Option, sym, refl, ap, ◌∙◌, inl, inr, arith, rules, MatchOption}
-use Rattle.std.proofs.lemmas.List.{take-append-drop, length-take-le, drop_all}
+use Rattle.std.proofs.Common.{◌≡◌, ℕ, zero, suc, ◌+◌, ◌-◌, ◌<◌, ◌≤◌, ◌≢◌, Bool, true, false, cond, ◌⊎◌, List, [], ◌∷◌, length, get_or, take, drop, Some, None, Ok, Err, codes, Decides, Option, sym, refl, ap, ◌∙◌, inl, inr, arith, rules, MatchOption}
+use Rattle.std.proofs.lemmas.List.{take-append-drop, length-take-le, length-drop, drop_all, at_drop_more, get_or_past}
 use Rattle.std.proofs.lemmas.Slice.Eq.{compares_Decides}
 use Rattle.std.proofs.lemmas.Bool.Decides.{nat_tests}
-use Rattle.std.proofs.lemmas.Bool.{le-leb, lt-leb, eq-eqb, ne_eqb}
+use Rattle.std.proofs.lemmas.Bool.{le-leb, lt-leb, eq-eqb, ne_eqb, cases_lt, cases_Bool, cond-true, cond-false}
 use Rattle.grammar.specs.Spelling.{letter, word_byte, each_byte, same_bytes}
 use Rattle.grammar.specs.Runs.{run_of, written}
 use Rattle.grammar.specs.Words.{WordEnd}
 use Rattle.grammar.specs.Names.{PlaceOf, FirstAt}
-use Rattle.grammar.specs.Walk.{place_in, key_of, one_more, word_at, word_part, key_at, some_token, bytes_at}
+use Rattle.grammar.specs.Walk.{place_in, key_of, one_more, word_at, word_part, key_at, some_token, stands, same_at, bytes_at}
 use Rattle.grammar.specs.declared.refusals.Refusal.TheVariants.{Shape}
 use Rattle.grammar.specs.declared.keywords.Keyword.{Keyword}
 use Rattle.grammar.specs.declared.keywords.Keyword.TheVariants.{Own, Cells, Cell, Field, Barrier, If, Else, End, While, Lane, Group, Lanes}
-use Rattle.grammar.proofs.Runs.{run_step, run-stop, run-nil}
-use Rattle.grammar.proofs.Scanned.{word-ends}
+use Rattle.grammar.proofs.Runs.{run_step, run-stop, run-nil, run_is}
+use Rattle.grammar.proofs.Scanned.{byte_at, at_part, behind-part, word-ends}
+use Rattle.std.specs.List.{prefix_len, zip}
 
 -- the same bytes
 pub same-decides : (u w : List ℕ) → Decides (same_bytes u w) (u ≡ w)
@@ -54,11 +55,28 @@ pub run-apart : (f : ℕ → Bool) → f 0 ≡ false → (l : List ℕ) → f (g
 run-apart f z [] = rw (run-nil f) z
 run-apart f z (b ∷ bs) = apart-step f b bs (f b) refl (run-apart f z bs)
 
-pub word-end-run : (text : List ℕ) (i r : ℕ) → WordEnd text i r → r ≡ i + run_of word_byte (drop i text)
-word-end-run text i r w =
+pub word_end_run : (text : List ℕ) (i r : ℕ) → WordEnd text i r → r ≡ i + run_of word_byte (drop i text)
+word_end_run text i r w =
     let n : ℕ = run_of word_byte (drop i text) in
     let e = word-ends text i r (take n (drop i text)) (drop n (drop i text)) w (sym (take-append-drop n (drop i text))) (run-each word_byte (drop i text)) (run-apart word_byte refl (drop i text)) in
     omega (arith, e, length-take-le n (drop i text) (run-le word_byte (drop i text)))
+
+-- A run of letters and digits is a word that ends.
+pub word_ended : (text : List ℕ) (i : ℕ) → WordEnd text i (i + prefix_len word_byte (drop i text))
+word_ended text i =
+    let r : List ℕ = drop i text in
+    let n : ℕ = run_of word_byte r in
+    rw (← run_is word_byte r) (record {
+      from = omega arith;
+      within = λ h. omega (arith, h, run-le word_byte r, length-drop i text);
+      word = λ k a b.
+          let l : k - i < length (take n r) = omega (arith, a, b, length-take-le n r (run-le word_byte r)) in
+          let e : get_or text (i + (k - i)) 0 ≡ get_or (take n r) (k - i) 0 = at_part text (take n r) (drop n r) i (k - i) (sym (take-append-drop n r)) l in
+          ap (λ m. word_byte (get_or text m 0)) (omega (arith, a)) ∙ ap word_byte e ∙ byte_at word_byte (take n r) (k - i) (run-each word_byte r) l;
+      apart =
+          let e : get_or text (i + (length (take n r) + 0)) 0 ≡ get_or (drop n r) 0 0 = behind-part text (take n r) (drop n r) i 0 (sym (take-append-drop n r)) in
+          ap (λ m. word_byte (get_or text m 0)) (omega (arith, length-take-le n r (run-le word_byte r))) ∙ ap word_byte e ∙ run-apart word_byte refl r;
+    })
 
 -- a word of the language
 abbrev pub Keyed : List ℕ → Option Keyword → Type 0
@@ -139,34 +157,63 @@ module _ (find : List ℕ → Option ℕ) (text : List ℕ) (i : ℕ) where
 
   pub word-long : (r : ℕ) → letter (get_or text i 0) ≡ true → WordEnd text i r → 8 < r - i → Err (Shape (i + 8)) ≡ word_at find text i
   unfolding word_at
-  word-long r h w l = rw (h, le-leb 9 (run_of word_byte (drop i text)) (omega (arith, word-end-run text i r w))) refl
+  word-long r h w l = rw (h, le-leb 9 (run_of word_byte (drop i text)) (omega (arith, word_end_run text i r w))) refl
 
   pub word-is : (r : ℕ) (k : Option Keyword) (o : Option ℕ) → letter (get_or text i 0) ≡ true → WordEnd text i r → r - i ≤ 8
       → Keyed (take (r - i) (drop i text)) k → o ≡ find (take (r - i) (drop i text)) → some_token k o i r ≡ word_at find text i
   unfolding word_at
   word-is r k o h w l q e =
-      let n : r - i ≡ run_of word_byte (drop i text) = omega (arith, word-end-run text i r w) in
-      let m : r ≡ i + run_of word_byte (drop i text) = word-end-run text i r w in
+      let n : r - i ≡ run_of word_byte (drop i text) = omega (arith, word_end_run text i r w) in
+      let m : r ≡ i + run_of word_byte (drop i text) = word_end_run text i r w in
       let f : o ≡ find (word_part text i) = e ∙ ap (λ m. find (take m (drop i text))) n in
       let g : k ≡ key_at text i = key_is (take (r - i) (drop i text)) k q ∙ ap (λ m. key_of (take m (drop i text))) n in
       rw (h, lt-leb 9 (run_of word_byte (drop i text)) (omega arith), ← g, ← f, ← m) refl
 
 pub key_here : (text : List ℕ) (i r : ℕ) (k : Option Keyword) → WordEnd text i r → Keyed (take (r - i) (drop i text)) k → k ≡ key_at text i
-key_here text i r k w q = key_is (take (r - i) (drop i text)) k q ∙ ap (λ m. key_of (take m (drop i text))) (omega (arith, word-end-run text i r w))
+key_here text i r k w q = key_is (take (r - i) (drop i text)) k q ∙ ap (λ m. key_of (take m (drop i text))) (omega (arith, word_end_run text i r w))
 
 -- wanted bytes
-pub bytes-none : (text : List ℕ) (i : ℕ) → bytes_at text [] i ≡ Ok i
-unfolding bytes_at
-bytes-none text i = refl
-
 pub bytes-more : (text : List ℕ) (bs : List ℕ) (b i : ℕ) → get_or text i 0 ≡ b → (b ≡ 0 → ⊥) → bytes_at text (b ∷ bs) i ≡ bytes_at text bs (i + 1)
 unfolding bytes_at
 bytes-more text bs b i e z = rw (eq-eqb (get_or text i 0) b e, ne_eqb b 0 z)
 
-pub bytes-not : (text : List ℕ) (bs : List ℕ) (b i : ℕ) → (get_or text i 0 ≡ b → ⊥) ⊎ (b ≡ 0) → Err (Shape i) ≡ bytes_at text (b ∷ bs) i
+none_stand : (l : List ℕ) → prefix_len stands (zip l []) ≡ 0
+none_stand [] = refl
+none_stand (x ∷ xs) = refl
+
+past_stands : (x b : ℕ) → x ≡ 0 → stands (x, b) ≡ false
+past_stands x b z = grind (arith, nat_tests)
+
+same_step : (text bs : List ℕ) (b i : ℕ) → same_at text i (b ∷ bs) ≡ cond (stands (get_or text i 0, b)) (1 + same_at text (i + 1) bs) 0
+same_step text bs b i =
+    elim (cases_lt i (length text)) [
+      | inl lt ↦ at_drop_more (λ l. prefix_len stands (zip l (b ∷ bs))) text i 0 lt
+      | inr le ↦ rw (drop_all i text le) (rw (past_stands (get_or text i 0) b (get_or_past text i 0 le)) refl)
+    ]
+
+same_on : (text bs : List ℕ) (b i : ℕ) → stands (get_or text i 0, b) ≡ true → same_at text i (b ∷ bs) ≡ 1 + same_at text (i + 1) bs
+same_on text bs b i p = same_step text bs b i ∙ cond-true (stands (get_or text i 0, b)) (1 + same_at text (i + 1) bs) 0 p
+
+same_off : (text bs : List ℕ) (b i : ℕ) → stands (get_or text i 0, b) ≡ false → same_at text i (b ∷ bs) ≡ 0
+same_off text bs b i p = same_step text bs b i ∙ cond-false (stands (get_or text i 0, b)) (1 + same_at text (i + 1) bs) 0 p
+
+pub bytes_all : (text bs : List ℕ) (i n : ℕ) → n ≡ same_at text i bs → n ≡ length bs → Ok (i + n) ≡ bytes_at text bs i
 unfolding bytes_at
-bytes-not text bs b i (inl h) = rw (ne_eqb (get_or text i 0) b h)
-bytes-not text bs b i (inr h) = grind (arith, nat_tests)
+bytes_all text [] i n s e = ap Ok (omega arith)
+bytes_all text (b ∷ bs) i n s e =
+    elim (cases_Bool (stands (get_or text i 0, b))) [
+      | inl p ↦ rw p (ap Ok (omega arith) ∙ bytes_all text bs (i + 1) (n - 1) (omega (arith, same_on text bs b i p)) (omega arith))
+      | inr p ↦ absurd (omega (arith, same_off text bs b i p))
+    ]
+
+pub bytes_part : (text bs : List ℕ) (i n : ℕ) → n ≡ same_at text i bs → n ≢ length bs → Err (Shape (i + n)) ≡ bytes_at text bs i
+unfolding bytes_at
+bytes_part text [] i n s e = absurd (e (s ∙ none_stand (drop i text)))
+bytes_part text (b ∷ bs) i n s e =
+    elim (cases_Bool (stands (get_or text i 0, b))) [
+      | inl p ↦ rw p (ap (λ m. Err (Shape m)) (omega (arith, same_on text bs b i p)) ∙ bytes_part text bs (i + 1) (n - 1) (omega (arith, same_on text bs b i p)) (λ q. e (omega (arith, q, same_on text bs b i p))))
+      | inr p ↦ rw p (ap (λ m. Err (Shape m)) (omega (arith, same_off text bs b i p)))
+    ]
 
 key-nil : None ≡ key_of (take (run_of word_byte []) [])
 unfolding key_of same_bytes run_of

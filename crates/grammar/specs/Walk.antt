@@ -1,5 +1,6 @@
 -- Reading bytes of a text from an index on, step by step: what the code does, as functions.
 use Rattle.std.specs.Prelude.{ℕ, zero, suc, ◌+◌, Bool, true, false, cond, not, ◌&&◌, ◌||◌, List, [], ◌∷◌, take, drop, Some, None, Ok, Err, codes, Option, Result, ◌==◌, nat_le, nat_lt, slice_index}
+use Rattle.std.specs.List.{prefix_len, zip}
 use Rattle.grammar.specs.Spelling.{letter, digit, word_byte, same_bytes, decimal}
 use Rattle.grammar.specs.Runs.{run_of}
 use Rattle.grammar.specs.declared.refusals.Refusal.{Refusal}
@@ -55,6 +56,14 @@ word_at find text i =
     (cond (nat_le 9 (run_of word_byte (drop i text))) (Err (Shape (i + 8)))
     (some_token (key_at text i) (find (word_part text i)) i (i + run_of word_byte (drop i text))))
     (Err (Shape i))
+
+-- A byte of a text beside a wanted one: a wanted byte that is no 0 stands there.
+abbrev pub stands : ℕ × ℕ → Bool
+stands p = p.0 == p.1 && not (p.1 == 0)
+
+-- How many of these bytes stand at byte i.
+abbrev pub same_at : List ℕ → ℕ → List ℕ → ℕ
+same_at text i bs = prefix_len stands (zip (drop i text) bs)
 
 -- These bytes, one after the other.
 unfoldable pub bytes_at : List ℕ → List ℕ → ℕ → Result ℕ Refusal

@@ -13,31 +13,25 @@ use crate::tokens::{Word, expect, read_word};
 fn is_atom(key: Keyword) -> bool
     ensures { result ≡ is_atom_spec key }
 {
-    match key {
-        Keyword::Lane | Keyword::Group | Keyword::Lanes => true,
-        _ => false,
-    }
+    matches!(key, Keyword::Lane | Keyword::Group | Keyword::Lanes)
 }
 
 fn is_operator(b: u8) -> bool
     ensures { result ≡ is_operator_spec b }
 {
-    match b {
-        b'+' | b'-' | b'*' | b'/' | b'%' | b'<' | b'=' => true,
-        _ => false,
-    }
+    matches!(b, b'+' | b'-' | b'*' | b'/' | b'%' | b'<' | b'=')
 }
 
 // The byte behind the number, name or word at byte i.
+#[tactic(auto, unfolding(crate::specs::Walk::atom_at))]
 fn atom(text: &[u8], i: usize) -> Result<usize, Refusal>
     ensures { (ns : List (List ℕ)) → NamesIn ns text.now → result ≡ atom_at (place_in ns) text.now i }
 {
     if is_digit(byte(text, i)) {
         let number = read_number(text, i);
-        return if number.value < 4294967296 {
-            Ok(number.end)
-        } else {
-            Err(Refusal::Large(i))
+        return match number.value {
+            Some(_) => Ok(number.end),
+            None => Err(Refusal::Large(i)),
         };
     }
     let token = read_word(text, i)?;
@@ -54,6 +48,7 @@ fn atom(text: &[u8], i: usize) -> Result<usize, Refusal>
 }
 
 // The byte behind an operator between its two spaces.
+#[tactic(auto, unfolding(crate::specs::Walk::operator_at))]
 fn operator(text: &[u8], i: usize) -> Result<usize, Refusal>
     ensures { result ≡ operator_at text.now i }
 {
@@ -66,6 +61,7 @@ fn operator(text: &[u8], i: usize) -> Result<usize, Refusal>
 
 // The byte behind the expression at byte i. At most `deep` brackets may be open at a time:
 // a line has 1,024 bytes, so where a 1,025th opens, the line is too long.
+#[tactic(auto, unfolding(crate::specs::Walk::expr_at))]
 pub fn read_expr(text: &[u8], i: usize, deep: usize) -> Result<usize, Refusal>
     ensures { (ns : List (List ℕ)) → NamesIn ns text.now → result ≡ expr_at (place_in ns) text.now deep i }
 {

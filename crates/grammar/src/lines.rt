@@ -14,7 +14,7 @@ use crate::tokens::{Word, expect, key_here, read_word};
 use crate::words::word_end;
 
 // A line of a body. An expression is given by the byte at which it begins, an own number by its place among the names.
-#[derive(Clone, Copy)]
+#[derive(Clone, Copy, PartialEq, Eq, Debug)]
 pub enum Line {
     Put {
         own: u32,
@@ -42,13 +42,14 @@ pub enum Line {
 }
 
 // A line, and the byte at which the next one begins.
-#[derive(Clone, Copy)]
+#[derive(Clone, Copy, PartialEq, Eq, Debug)]
 pub struct Lined {
     pub line: Line,
     pub next: usize,
 }
 
 // The line that ends with the expression at byte i.
+#[tactic(auto, unfolding(crate::specs::WalkLine::with_expr_spec))]
 fn with_expr(text: &[u8], line: Line, i: usize) -> Result<Lined, Refusal>
     ensures { (ns : List (List ℕ)) → NamesIn ns text.now → result ≡ with_expr_spec (place_in ns) text.now line i }
 {
@@ -57,6 +58,7 @@ fn with_expr(text: &[u8], line: Line, i: usize) -> Result<Lined, Refusal>
 }
 
 // The line that ends at byte i.
+#[tactic(auto, unfolding(crate::specs::WalkLine::closed))]
 fn closed(text: &[u8], line: Line, i: usize) -> Result<Lined, Refusal>
     ensures { result ≡ closed text.now line i }
 {
@@ -76,6 +78,7 @@ fn cell_kind(key: Option<Keyword>) -> Option<bool>
 }
 
 // A line that begins with the name of own number `own`, which ends at byte i.
+#[tactic(auto, using(crate::proofs::Walks::word_end_run), unfolding(crate::specs::WalkLine::assign_at))]
 fn assign(text: &[u8], own: u32, i: usize) -> Result<Lined, Refusal>
     ensures { (ns : List (List ℕ)) → NamesIn ns text.now → result ≡ assign_at (place_in ns) text.now own i }
 {
@@ -90,6 +93,7 @@ fn assign(text: &[u8], own: u32, i: usize) -> Result<Lined, Refusal>
 }
 
 // A line that begins with `cell` or `field`, which ends at byte i.
+#[tactic(auto, unfolding(crate::specs::WalkLine::write_at))]
 fn write(text: &[u8], field: bool, i: usize) -> Result<Lined, Refusal>
     ensures { (ns : List (List ℕ)) → NamesIn ns text.now → result ≡ write_at (place_in ns) text.now field i }
 {
@@ -108,6 +112,7 @@ fn write(text: &[u8], field: bool, i: usize) -> Result<Lined, Refusal>
 }
 
 // A line that begins with a word of the language, which ends at byte i.
+#[tactic(auto, unfolding(crate::specs::WalkLine::by_key))]
 fn keyed(text: &[u8], key: Keyword, i: usize) -> Result<Lined, Refusal>
     ensures { (ns : List (List ℕ)) → NamesIn ns text.now → result ≡ by_key (place_in ns) text.now key i }
 {
@@ -125,15 +130,14 @@ fn keyed(text: &[u8], key: Keyword, i: usize) -> Result<Lined, Refusal>
             let expr = expect(text, i, b" ")?;
             with_expr(text, Line::While { expr }, expr)
         }
-        Keyword::Own => Err(Refusal::Shape(i)),
-        Keyword::Cells => Err(Refusal::Shape(i)),
-        Keyword::Lane => Err(Refusal::Shape(i)),
-        Keyword::Group => Err(Refusal::Shape(i)),
-        Keyword::Lanes => Err(Refusal::Shape(i)),
+        Keyword::Own | Keyword::Cells | Keyword::Lane | Keyword::Group | Keyword::Lanes => Err(
+            Refusal::Shape(i),
+        ),
     }
 }
 
 // The line at byte pos, however long it is.
+#[tactic(auto, unfolding(crate::specs::WalkLine::bare_at))]
 fn bare_line(text: &[u8], pos: usize) -> Result<Lined, Refusal>
     ensures { (ns : List (List ℕ)) → NamesIn ns text.now → result ≡ bare_at (place_in ns) text.now pos }
 {

@@ -9,10 +9,7 @@ use crate::words::word_end;
 fn has_names(text: &[u8]) -> bool
     ensures { Decides result (take 4 text.now ≡ codes "own ") }
 {
-    match text {
-        [b'o', b'w', b'n', b' ', ..] => true,
-        _ => false,
-    }
+    text.starts_with(b"own ")
 }
 
 // The place of the name text[from..to] among the names of own numbers.

@@ -2,7 +2,7 @@
 ghost use Rattle.std.specs.Prelude.{◌≡◌};
 ghost use Rattle.grammar.specs.Refusals.{number_of, place_of};
 
-#[derive(Clone, Copy)]
+#[derive(Clone, Copy, PartialEq, Eq, Debug)]
 pub enum Refusal {
     // no text goes on so
     Shape(usize),
@@ -36,14 +36,14 @@ pub fn refusal_place(refusal: Refusal) -> usize
     ensures { result ≡ place_of refusal }
 {
     match refusal {
-        Refusal::Shape(p) => p,
-        Refusal::Unknown(p) => p,
-        Refusal::Twice(p) => p,
-        Refusal::Large(p) => p,
-        Refusal::ManyNames(p) => p,
-        Refusal::ManyCells(p) => p,
-        Refusal::ManyLines(p) => p,
-        Refusal::Long(p) => p,
-        Refusal::Deep(p) => p,
+        Refusal::Shape(p)
+        | Refusal::Unknown(p)
+        | Refusal::Twice(p)
+        | Refusal::Large(p)
+        | Refusal::ManyNames(p)
+        | Refusal::ManyCells(p)
+        | Refusal::ManyLines(p)
+        | Refusal::Long(p)
+        | Refusal::Deep(p) => p,
     }
 }

@@ -1,7 +1,7 @@
 // What stands at a byte: a word with its meaning, or bytes that must be there.
-ghost use Rattle.std.specs.Prelude.{◌≡◌, ℕ, List};
+ghost use Rattle.std.specs.Prelude.{◌≡◌, ℕ, ◌+◌, ◌<◌, ◌^◌, List};
 ghost use Rattle.grammar.specs.Names.{NamesIn};
-ghost use Rattle.grammar.specs.Walk.{place_in, word_at, bytes_at, key_at};
+ghost use Rattle.grammar.specs.Walk.{place_in, word_at, same_at, bytes_at, key_at};
 
 use crate::bytes::{byte, is_letter};
 use crate::keywords::{Keyword, keyword_of};
@@ -10,20 +10,21 @@ use crate::refusals::Refusal;
 use crate::words::word_end;
 
 // A word of the language, or the name of an own number.
-#[derive(Clone, Copy)]
+#[derive(Clone, Copy, PartialEq, Eq, Debug)]
 pub enum Word {
     Key(Keyword),
     Own(u32),
 }
 
 // A word and the byte behind it.
-#[derive(Clone, Copy)]
+#[derive(Clone, Copy, PartialEq, Eq, Debug)]
 pub struct Token {
     pub word: Word,
     pub end: usize,
 }
 
 // The word at byte i, which begins with a letter and has 8 bytes at most.
+#[tactic(auto, using(crate::proofs::Walks::word_end_run), unfolding(crate::specs::Walk::word_at))]
 pub fn read_word(text: &[u8], i: usize) -> Result<Token, Refusal>
     ensures { (ns : List (List ℕ)) → NamesIn ns text.now → result ≡ word_at (place_in ns) text.now i }
 {
@@ -34,41 +35,40 @@ pub fn read_word(text: &[u8], i: usize) -> Result<Token, Refusal>
     if end - i > 8 {
         return Err(Refusal::Shape(i + 8));
     }
-    if let Some(key) = keyword_of(&text[i..end]) {
-        return Ok(Token {
-            word: Word::Key(key),
-            end,
-        });
-    }
-    match name_index(text, i, end) {
-        Some(k) => Ok(Token {
-            word: Word::Own(k),
-            end,
-        }),
-        None => Err(Refusal::Unknown(i)),
-    }
+    let word = match keyword_of(&text[i..end]) {
+        Some(key) => Word::Key(key),
+        None => Word::Own(name_index(text, i, end).ok_or(Refusal::Unknown(i))?),
+    };
+    Ok(Token { word, end })
 }
 
 // The word of the language at byte i, if one stands there.
 pub fn key_here(text: &[u8], i: usize) -> Option<Keyword>
     ensures { result ≡ key_at text.now i }
 {
-    if i > text.len() {
-        return None;
-    }
-    keyword_of(&text[i..word_end(text, i)])
+    keyword_of(text.get(i..word_end(text, i))?)
+}
+
+// How many of the wanted bytes stand at byte i, up to the first that does not.
+fn count_same(text: &[u8], i: usize, wanted: &[u8]) -> usize
+    ensures count { result ≡ same_at text.now i wanted.now }
+    ensures within { i + result < 2 ^ 64 }
+{
+    text.iter()
+        .skip(i)
+        .zip(wanted)
+        .take_while(|(b, w)| b == w && **w != 0)
+        .count()
 }
 
 // The byte behind the wanted bytes, which must stand at byte i.
 pub fn expect(text: &[u8], i: usize, wanted: &[u8]) -> Result<usize, Refusal>
     ensures { result ≡ bytes_at text.now wanted.now i }
 {
-    let mut at = i;
-    for b in wanted {
-        if *b == 0 || byte(text, at) != *b {
-            return Err(Refusal::Shape(at));
-        }
-        at += 1;
+    let same = count_same(text, i, wanted);
+    if same == wanted.len() {
+        Ok(i + same)
+    } else {
+        Err(Refusal::Shape(i + same))
     }
-    Ok(at)
 }

@@ -1,5 +1,5 @@
 -- Turns that are written down: what stands at a byte is one thing at most.
-use Rattle.std.proofs.Common.{◌≡◌, ℕ, ◌+◌, ◌-◌, ◌<◌, ◌≤◌, min, ◌⊎◌, List, [], ◌∷◌, ◌++◌, length, get_or, take, drop, Some, None, Ok, Err, codes, Option, sym, refl, ap, ◌∙◌, subst, inl, inr, arith, lit≤, MatchOption}
+use Rattle.std.proofs.Common.{◌≡◌, ℕ, ◌+◌, ◌-◌, ◌<◌, ◌≤◌, ◌⊎◌, List, [], ◌∷◌, ◌++◌, length, get_or, take, drop, Some, None, Ok, Err, codes, Option, sym, refl, ap, ◌∙◌, subst, inl, inr, arith, lit≤, MatchOption, SomeIff}
 use Rattle.std.proofs.lemmas.List.{drop-drop, length-drop, length-append}
 use Rattle.grammar.specs.declared.refusals.Refusal.{Refusal}
 use Rattle.grammar.specs.Spelling.{digit, each_byte, decimal}
@@ -19,28 +19,25 @@ behind-some t w i j e = bytes-sound t w i j (sym e)
 pub behind-none : (t w : List ℕ) (i : ℕ) (d : Refusal) → Plain w → Err d ≡ bytes_at t w i → (j : ℕ) → BytesHere t w i j → ⊥
 behind-none t w i d p e j h = not_err d (i + length w) (e ∙ bytes-done t i w (drop j t) p h.0)
 
-min-small : (a v : ℕ) → v ≡ min a 4294967296 → v < 4294967296 → a ≡ v
-min-small a v e h = omega arith
-
-pub small-some : (t : List ℕ) (i e v : ℕ) → e ≡ i + run_of digit (drop i t) → v ≡ min (decimal 0 (take (run_of digit (drop i t)) (drop i t))) 4294967296 → i < e → v < 4294967296 → DigitsHere t i v e
-small-some t i e v p q h g = record {
+pub small-some : (t : List ℕ) (i e v : ℕ) → e ≡ i + run_of digit (drop i t) → SomeIff (Some v) (decimal 0 (take (run_of digit (drop i t)) (drop i t)) < 4294967296) (decimal 0 (take (run_of digit (drop i t)) (drop i t))) → i < e → DigitsHere t i v e
+small-some t i e v p q h = record {
   digits = take (run_of digit (drop i t)) (drop i t);
   rest = drop (i + run_of digit (drop i t)) t;
-  number = record { some = omega (arith, run_length digit t i); bytes = run-each digit (drop i t); value = min-small _ v q g };
+  number = record { some = omega (arith, run_length digit t i); bytes = run-each digit (drop i t); value = sym q.1 };
   here = run-splits digit t i;
   ends = ap (λ (u : List ℕ). digit (get_or u 0 0)) (sym (drop-drop (run_of digit (drop i t)) i t)) ∙ run-apart digit refl (drop i t);
-  few = g;
+  few = omega (arith, q.0, q.1);
   behind = p ∙ ap (λ (n : ℕ). i + n) (sym (run_length digit t i));
 }
 
-pub small-none : (t : List ℕ) (i e v : ℕ) → e ≡ i + run_of digit (drop i t) → v ≡ min (decimal 0 (take (run_of digit (drop i t)) (drop i t))) 4294967296 → (e ≤ i) ⊎ (4294967296 ≤ v) →
+pub small-none : (t : List ℕ) (i e : ℕ) → e ≡ i + run_of digit (drop i t) → (e ≤ i) ⊎ (decimal 0 (take (run_of digit (drop i t)) (drop i t)) < 4294967296 → ⊥) →
     (w j : ℕ) → DigitsHere t i w j → ⊥
-small-none t i e v p q h w j d =
+small-none t i e p h w j d =
     let r = run-here digit t i d.digits d.rest d.number.bytes d.ends d.here in
     let s = ap (decimal 0) (part-here digit t i d.digits d.rest d.number.bytes d.ends d.here) ∙ d.number.value in
     let m = d.number.some in
     let f = d.few in
-    elim h [ inl a ↦ omega arith | inr b ↦ omega arith ]
+    elim h [ inl a ↦ omega arith | inr b ↦ b (omega arith) ]
 
 pub digits_same : (t : List ℕ) (i v j w k : ℕ) → DigitsHere t i v j → DigitsHere t i w k → (v ≡ w) × (j ≡ k)
 digits_same t i v j w k a b =

@@ -29,11 +29,8 @@ fn small_at(bytes: &[u8], i: usize) -> Option<Small>
     if number.end <= i {
         return None;
     }
-    if number.value >= 4294967296 {
-        return None;
-    }
     Some(Small {
-        value: number.value as u32,
+        value: number.value?,
         end: number.end,
     })
 }

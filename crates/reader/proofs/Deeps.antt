@@ -21,7 +21,7 @@ use Rattle.grammar.proofs.Complete.{past, part-here}
 use Rattle.grammar.proofs.Walks.{key-written}
 use Rattle.grammar.proofs.Sound.{cond_cases, then-parts, not_err, same_ok}
 use Rattle.grammar.proofs.Soundline.{line_sound}
-use Rattle.reader.specs.Blocks.{opens, kind_of_spec, is_else_spec, too_many, next_at, must_end_spec, must_end_as, must_loop_spec, must_loop_as, by_kind, block_at}
+use Rattle.reader.specs.Blocks.{opens, kind_of_spec, is_else_spec, too_many, next_at, must_end_spec, must_as, must_loop_spec, must_loop_as, by_kind, block_at}
 use Rattle.reader.specs.declared.blocks.Ending.{Ending}
 use Rattle.reader.specs.declared.blocks.Ending.TheVariants.{Text, Else, End}
 use Rattle.reader.specs.declared.blocks.Kind.{Kind}
@@ -238,7 +238,7 @@ module _ (find : List ℕ → Option ℕ) (text : List ℕ) (N : ℕ → List �
   abbrev Reader : (ℕ → ℕ → ℕ → Bool → Result Stop Refusal) → Type 0
   Reader go = (deep left i : ℕ) (some : Bool) (s : Stop) → go deep left i some ≡ Ok s → Block deep left i some s
 
-  ended : (g : Ending) (s e : Stop) → s.ending ≡ g → must_end_as g s ≡ Ok e → (e ≡ s) × (drop s.pos text ≡ drop s.pos text) × (g ≡ End)
+  ended : (g : Ending) (s e : Stop) → s.ending ≡ g → must_as End g s ≡ Ok e → (e ≡ s) × (drop s.pos text ≡ drop s.pos text) × (g ≡ End)
   ended Text s e q h = absurd (not_err _ e h)
   ended Else s e q h = absurd (not_err _ e h)
   ended End s e q h = (sym (same_ok s e h), refl, refl)

@@ -19,7 +19,7 @@ use Rattle.grammar.proofs.Complete.{past}
 use Rattle.grammar.proofs.Sound.{cond_cases, not_err, same_ok}
 use Rattle.grammar.proofs.Goesonfront.{Just, Both, Front, Got, front_map, got_map, front_none, front_first, front_second, got_both, longer}
 use Rattle.grammar.proofs.Goesonbegun.{Bodied, HeadOf, LineOf, front-named, front-line, got-line, not-end-barrier, not-end-when, not-end-while}
-use Rattle.reader.specs.Blocks.{opens, next_at, too_many, block_at, by_kind, kind_of_spec, is_else_spec, must_end_spec, must_end_as, must_loop_as}
+use Rattle.reader.specs.Blocks.{opens, next_at, too_many, block_at, by_kind, kind_of_spec, is_else_spec, must_end_spec, must_as, must_loop_as}
 use Rattle.reader.specs.declared.blocks.Ending.{Ending}
 use Rattle.reader.specs.declared.blocks.Ending.TheVariants.{Text, Else, End}
 use Rattle.reader.specs.declared.blocks.Stop.{Stop}
@@ -252,7 +252,7 @@ module _ (text : List ℕ) (find : List ℕ → Option ℕ) (o : ℕ) (finds : (
   module _ (f : ℕ) (go : ℕ → ℕ → ℕ → Bool → Result Stop Refusal) (h : (deep l n : ℕ) (some : Bool) → l < f → Walked n some l (go deep l n some)) where
     -- behind the second part of an if
     else_on : (E : Ending) (i m deep left : ℕ) (some : Bool) (y : Stop) → Got text IfLines i m → (n : ℕ) → Got text (Just (codes "else\n")) m n → (k : Got text SomeLines n y.pos) → EndedAs E y → y.left < f → y.left ≤ left
-        → Walked i some left (and_then (must_end_as E y) (λ e. go deep e.left e.next true))
+        → Walked i some left (and_then (must_as End E y) (λ e. go deep e.left e.next true))
     else_on Text i m deep left some y g n a k e l q =
         walked_err i some left y.pos (close_else i y.pos (whole_front ElseLines i y.pos (got_both text IfLines (Both (Just (codes "else\n")) SomeLines) i m y.pos g (got_both text (Just (codes "else\n")) SomeLines m n y.pos a k))))
     else_on Else i m deep left some y g n a k e l q =
@@ -266,7 +266,7 @@ module _ (text : List ℕ) (find : List ℕ → Option ℕ) (o : ℕ) (finds : (
         q (h deep y.left y.next true l)
 
     if_on : (E : Ending) (i n deep left : ℕ) (some : Bool) (x : Stop) → Got text (HeadOf (codes "if ")) i n → Got text SomeLines n x.pos → EndedAs E x → x.left < f → x.left ≤ left
-        → Walked i some left (cond (is_else_spec E) (and_then (go (deep - 1) x.left x.next false) (λ t. and_then (must_end_spec t) (λ e. go deep e.left e.next true))) (and_then (must_end_as E x) (λ e. go deep e.left e.next true)))
+        → Walked i some left (cond (is_else_spec E) (and_then (go (deep - 1) x.left x.next false) (λ t. and_then (must_end_spec t) (λ e. go deep e.left e.next true))) (and_then (must_as End E x) (λ e. go deep e.left e.next true)))
     if_on Text i n deep left some x g k e l q = walked_err i some left x.pos (close_if i x.pos (whole_front IfLines i x.pos (got_both text (HeadOf (codes "if ")) SomeLines i n x.pos g k)))
     if_on End i n deep left some x g k e l q =
         after i x.next some x.left left _

@@ -17,8 +17,8 @@ use Rattle.grammar.proofs.Goesonline.{then-fails}
 use Rattle.grammar.proofs.Goesonfront.{Just, Both, Front, Got, front_map, front_none, front_second, front_then, got_bytes, front_bytes, front_long, front_key, name-a}
 use Rattle.grammar.proofs.Goesonbegun.{Bodied}
 use Rattle.reader.specs.Heads.{spaced, is_key, is_own_spec, is_cells_spec, name_at, names_at, own_at, Found, cells_at}
-use Rattle.reader.specs.Blocks.{block_at}
-use Rattle.reader.specs.Texts.{read_at, head_lines_spec, whole, whole_as}
+use Rattle.reader.specs.Blocks.{block_at, must_as}
+use Rattle.reader.specs.Texts.{read_at, head_lines_spec, whole}
 use Rattle.reader.specs.declared.heads.Head.{Head}
 use Rattle.reader.specs.declared.blocks.Ending.{Ending}
 use Rattle.reader.specs.declared.blocks.Ending.TheVariants.{Text, Else, End}
@@ -367,7 +367,7 @@ module _ (text : List ℕ) where
   got-cells i h c l m =
       record { bytes = c.part; is = (h.many, c.line); here = c.here; end_is = omega (arith, ap length c.here, length-append c.part (drop h.next text), length-drop i text, length-drop h.next text) }
 
-  whole_front : (o : ℕ) (find : List ℕ → Option ℕ) (finds : (k : ℕ) (u : List ℕ) → find u ≡ Some k → AnyName k u × (k < o)) (i left p : ℕ) (E : Ending) (s : Stop) → s.ending ≡ E → Gone text find o finds i false left s → whole_as E s ≡ Err (Shape p) → Front text Bodied i p
+  whole_front : (o : ℕ) (find : List ℕ → Option ℕ) (finds : (k : ℕ) (u : List ℕ) → find u ≡ Some k → AnyName k u × (k < o)) (i left p : ℕ) (E : Ending) (s : Stop) → s.ending ≡ E → Gone text find o finds i false left s → must_as Text E s ≡ Err (Shape p) → Front text Bodied i p
   whole_front o find finds i left p Text s q g e = let z : ◌≡◌ {A = ℕ} 0 1 = cc in absurd (omega arith)
   whole_front o find finds i left p Else s q g e =
       let n : s.next - 1 ≡ p = cc in

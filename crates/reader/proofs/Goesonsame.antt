@@ -10,7 +10,7 @@ use Rattle.grammar.specs.declared.lines.Lined.{Lined}
 use Rattle.grammar.proofs.Sound.{cond_cases, not_err}
 use Rattle.grammar.proofs.Goeson.{Agree, SameRead, same_end, same_shape, same_then, same_cond, same_from, same_other}
 use Rattle.grammar.proofs.Goesonline.{next_of, line_same, key-same, line-reach-ok, line-reach-err}
-use Rattle.reader.specs.Blocks.{opens, next_at, too_many, block_at, by_kind, kind_of_spec, is_else_spec, must_end_spec, must_end_as, must_loop_as}
+use Rattle.reader.specs.Blocks.{opens, next_at, too_many, block_at, by_kind, kind_of_spec, is_else_spec, must_end_spec, must_as, must_loop_as}
 use Rattle.reader.specs.declared.blocks.Ending.{Ending}
 use Rattle.reader.specs.declared.blocks.Ending.TheVariants.{Text, Else, End}
 use Rattle.reader.specs.declared.blocks.Kind.{Kind}
@@ -76,7 +76,7 @@ module _ (find : List ℕ → Option ℕ) (text t : List ℕ) where
     after deep s = same_from text t stop_of (s.next - 1) s.next _ _ (omega arith) (h deep s.left s.next true)
 
     end_on : (E : Ending) (deep : ℕ) (s : Stop)
-        → SameRead text t stop_of (stop_at E s) (and_then (must_end_as E s) (λ e. go deep e.left e.next true)) (and_then (must_end_as E s) (λ e. og deep e.left e.next true))
+        → SameRead text t stop_of (stop_at E s) (and_then (must_as End E s) (λ e. go deep e.left e.next true)) (and_then (must_as End E s) (λ e. og deep e.left e.next true))
     end_on Text deep s = same_shape text t stop_of s.pos s.pos (omega arith)
     end_on Else deep s = same_shape text t stop_of (s.next - 1) (s.next - 1) (omega arith)
     end_on End deep s = after deep s
@@ -101,8 +101,8 @@ module _ (find : List ℕ → Option ℕ) (text t : List ℕ) where
 
     if_on : (E : Ending) (deep : ℕ) (s : Stop)
         → SameRead text t stop_of (stop_at E s)
-        (cond (is_else_spec E) (and_then (go (deep - 1) s.left s.next false) (λ x. and_then (must_end_spec x) (λ e. go deep e.left e.next true))) (and_then (must_end_as E s) (λ e. go deep e.left e.next true)))
-        (cond (is_else_spec E) (and_then (og (deep - 1) s.left s.next false) (λ x. and_then (must_end_spec x) (λ e. og deep e.left e.next true))) (and_then (must_end_as E s) (λ e. og deep e.left e.next true)))
+        (cond (is_else_spec E) (and_then (go (deep - 1) s.left s.next false) (λ x. and_then (must_end_spec x) (λ e. go deep e.left e.next true))) (and_then (must_as End E s) (λ e. go deep e.left e.next true)))
+        (cond (is_else_spec E) (and_then (og (deep - 1) s.left s.next false) (λ x. and_then (must_end_spec x) (λ e. og deep e.left e.next true))) (and_then (must_as End E s) (λ e. og deep e.left e.next true)))
     if_on Text deep s = end_on Text deep s
     if_on Else deep s = second deep s
     if_on End deep s = end_on End deep s

@@ -15,8 +15,8 @@ use Rattle.grammar.proofs.Goeson.{Agree}
 use Rattle.grammar.proofs.Goesonexpr.{bytes_same}
 use Rattle.grammar.proofs.Goesonline.{next_of, then-fails, Reach, reach-more, key-same, line-reach-ok, line-reach-err}
 use Rattle.reader.specs.Heads.{is_own_spec, is_cells_spec, names_at, own_at, Found, cells_at}
-use Rattle.reader.specs.Blocks.{next_at, by_kind, kind_of_spec, block_at}
-use Rattle.reader.specs.Texts.{read_at, head_lines_spec, whole, whole_as, shape_of}
+use Rattle.reader.specs.Blocks.{next_at, by_kind, kind_of_spec, block_at, must_as}
+use Rattle.reader.specs.Texts.{read_at, head_lines_spec, whole, shape_of}
 use Rattle.reader.specs.declared.heads.Head.{Head}
 use Rattle.reader.specs.declared.blocks.Ending.{Ending}
 use Rattle.reader.specs.declared.blocks.Ending.TheVariants.{Text, Else, End}
@@ -76,7 +76,7 @@ five text z i e =
     ∙ bytes-more text (codes "s ") 108 (((i + 1) + 1) + 1) (first_byte text (((i + 1) + 1) + 1) 108 _ e3) (λ y. omega (arith, y))
     ∙ bytes-more text (codes " ") 115 ((((i + 1) + 1) + 1) + 1) (first_byte text ((((i + 1) + 1) + 1) + 1) 115 _ e4) (λ y. omega (arith, y))
 
-whole-place : (E : Ending) (x : Stop) (q : ℕ) → whole_as E x ≡ Err (No-text q) → (stop_at E x ≤ q) × (E ≡ Text → ⊥)
+whole-place : (E : Ending) (x : Stop) (q : ℕ) → must_as Text E x ≡ Err (No-text q) → (stop_at E x ≤ q) × (E ≡ Text → ⊥)
 whole-place Text x q e = let z : ◌≡◌ {A = ℕ} 0 1 = cc in absurd (omega arith)
 whole-place Else x q e = let n : x.next - 1 ≡ q = cc in (omega arith, λ p. let z : ◌≡◌ {A = ℕ} 0 1 = cc in omega arith)
 whole-place End x q e = let n : x.next - 1 ≡ q = cc in (omega arith, λ p. let z : ◌≡◌ {A = ℕ} 0 1 = cc in omega arith)

@@ -1,13 +1,12 @@
 -- Each way through a line of a block is what specs/Blocks says.
-use Rattle.std.proofs.Common.{◌≡◌, ℕ, zero, suc, ◌-◌, ◌<◌, ◌≤◌, Bool, true, false, cond, ◌&&◌, eqb, List, length, IfOk, Ok, Err, Option, Result, sym, refl, ap, ◌∙◌, arith}
-use Rattle.std.proofs.lemmas.Bool.{eq-eqb, ne_eqb, le-leb, lt-leb}
-use Rattle.grammar.specs.Refusals.{place_of}
-use Rattle.grammar.specs.Walk.{key_at, and_then}
-use Rattle.grammar.specs.WalkLine.{line_at}
+use Rattle.std.proofs.Common.{◌≡◌, ℕ, zero, suc, ◌-◌, ◌<◌, ◌≤◌, Bool, true, false, cond, List, length, IfOk, Ok, Err, Option, Result, sym, refl, ap, ◌∙◌, arith}
+use Rattle.std.proofs.lemmas.Bool.{le-leb, lt-leb}
+use denote.Enum.Bare.{sameb}
+use Rattle.reader.specs.contracts.blocks.Ending.{the_type}
+use Rattle.grammar.specs.Walk.{and_then}
 use Rattle.grammar.specs.declared.refusals.Refusal.{Refusal}
-use Rattle.grammar.specs.declared.refusals.Refusal.TheVariants.{ManyLines, Deep}
 use Rattle.grammar.specs.declared.lines.Lined.{Lined}
-use Rattle.reader.specs.Blocks.{opens, next_at, block_at, by_kind, kind_of_spec, must_end_spec, must_end_as, must_loop_spec, must_loop_as}
+use Rattle.reader.specs.Blocks.{next_at, block_at, by_kind, kind_of_spec, is_else_spec, must_end_spec, must_as, must_loop_spec, must_loop_as}
 use Rattle.reader.specs.declared.blocks.Ending.{Ending}
 use Rattle.reader.specs.declared.blocks.Ending.TheVariants.{Text, Else, End}
 use Rattle.reader.specs.declared.blocks.Kind.{Kind}
@@ -28,26 +27,6 @@ pub then_ok : {X Y : Type 0} (r : Result X Refusal) (f : X → Result Y Refusal)
 then_ok r f x h = rw (sym h) refl
 
 module _ (find : List ℕ → Option ℕ) (text : List ℕ) (deep left i : ℕ) where
-  pub next-many : (l : Lined) → Ok l ≡ line_at find text i → left ≡ 0 → Err (ManyLines i) ≡ next_at find text deep left i
-  unfolding next_at
-  next-many l h z = rw (eq-eqb left 0 z, sym h) refl
-
-  pub next-same : (e : Refusal) → Err e ≡ line_at find text i → left ≡ 0 → place_of e ≡ i → Err e ≡ next_at find text deep left i
-  unfolding next_at
-  next-same e h z p = rw (eq-eqb left 0 z, sym h, eq-eqb (place_of e) i p) refl
-
-  pub next-other : (e : Refusal) → Err e ≡ line_at find text i → left ≡ 0 → (place_of e ≡ i → ⊥) → Err (ManyLines i) ≡ next_at find text deep left i
-  unfolding next_at
-  next-other e h z p = rw (eq-eqb left 0 z, sym h, ne_eqb (place_of e) i p) refl
-
-  pub next-deep : (left ≡ 0 → ⊥) → (eqb deep 0 && opens (key_at text i)) ≡ true → Err (Deep i) ≡ next_at find text deep left i
-  unfolding next_at
-  next-deep z d = rw (ne_eqb left 0 z, d) refl
-
-  pub next-go : (left ≡ 0 → ⊥) → (eqb deep 0 && opens (key_at text i)) ≡ false → line_at find text i ≡ next_at find text deep left i
-  unfolding next_at
-  next-go z d = rw (ne_eqb left 0 z, d) refl
-
   module _ (some : Bool) where
     pub block-text : (f : ℕ) → left < f → length text ≤ i → Ok (record { ending = Text; some = some; pos = i; next = i; left = left }) ≡ block_at find text f deep left i some
     unfolding block_at
@@ -67,6 +46,12 @@ module _ (find : List ℕ → Option ℕ) (text : List ℕ) (deep left i : ℕ) 
         ∙ then_ok (next_at find text deep left i) (λ m. by_kind (block_at find text (f - 1)) deep left i some (kind_of_spec m.line) m.next) l e
         ∙ block-step f h t
 
+-- What `==` says of an else.
+pub same_else : (g : Ending) → sameb the_type g Else ≡ is_else_spec g
+same_else Text = refl
+same_else Else = refl
+same_else End = refl
+
 pub cond-taken : {A : Type 0} (b : Bool) (x y : A) → b ≡ true → x ≡ cond b x y
 cond-taken b x y h = rw h refl
 
@@ -80,7 +65,7 @@ same_ok x y e = cc
 not-ok : (x : Stop) (d : Refusal) → ◌≡◌ {A = Result Stop Refusal} (Ok x) (Err d) → ⊥
 not-ok x d e = let z : ◌≡◌ {A = ℕ} 0 1 = cc in omega arith
 
-end-as : (g : Ending) (s e : Stop) → Ok e ≡ must_end_as g s → e ≡ s
+end-as : (g : Ending) (s e : Stop) → Ok e ≡ must_as End g s → e ≡ s
 end-as Text s e h = absurd (not-ok e _ h)
 end-as Else s e h = absurd (not-ok e _ h)
 end-as End s e h = same_ok e s h

@@ -15,8 +15,8 @@ use Rattle.grammar.proofs.Nameds.{place-named, named-name}
 use Rattle.grammar.proofs.Complete.{part-here}
 use Rattle.grammar.proofs.Sound.{cond_cases, then-parts, not_err, same_ok, bytes-sound, run-splits, run_length, run-some}
 use Rattle.reader.specs.Heads.{spaced, Found, counted, is_own_spec, is_cells_spec, own_at, cells_at}
-use Rattle.reader.specs.Blocks.{block_at}
-use Rattle.reader.specs.Texts.{head_lines_spec, whole, whole_as, shape_of, read_at, ReadAs}
+use Rattle.reader.specs.Blocks.{block_at, must_as}
+use Rattle.reader.specs.Texts.{head_lines_spec, whole, shape_of, read_at, ReadAs}
 use Rattle.reader.specs.declared.heads.Head.{Head}
 use Rattle.reader.specs.declared.blocks.Ending.{Ending}
 use Rattle.reader.specs.declared.blocks.Ending.TheVariants.{Text, Else, End}
@@ -157,7 +157,7 @@ cells-sound text i h e =
     ]
 
 -- the whole text
-whole_is : (g : Ending) (s e : Stop) → whole_as g s ≡ Ok e → (e ≡ s) × (g ≡ Text)
+whole_is : (g : Ending) (s e : Stop) → must_as Text g s ≡ Ok e → (e ≡ s) × (g ≡ Text)
 whole_is Text s e h = (sym (same_ok s e h), refl)
 whole_is Else s e h = absurd (not_err _ e h)
 whole_is End s e h = absurd (not_err _ e h)

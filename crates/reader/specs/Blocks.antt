@@ -56,13 +56,23 @@ unfoldable pub next_at : (List ℕ → Option ℕ) → List ℕ → ℕ → ℕ 
 next_at find text deep left i =
     cond (left == 0) (too_many i (line_at find text i)) (cond (deep == 0 && opens (key_at text i)) (Err (Deep i)) (line_at find text i))
 
-abbrev pub must_end_as : Ending → Stop → Result Stop Refusal
-must_end_as Text s = Err (Shape s.pos)
-must_end_as Else s = Err (Shape (s.next - 1))
-must_end_as End s = Ok s
+-- A block that must end so.
+abbrev pub must_as : Ending → Ending → Stop → Result Stop Refusal
+must_as Text Text s = Ok s
+must_as Text Else s = Err (Shape (s.next - 1))
+must_as Text End s = Err (Shape (s.next - 1))
+must_as Else Text s = Err (Shape s.pos)
+must_as Else Else s = Ok s
+must_as Else End s = Err (Shape (s.next - 1))
+must_as End Text s = Err (Shape s.pos)
+must_as End Else s = Err (Shape (s.next - 1))
+must_as End End s = Ok s
+
+abbrev pub must_spec : Ending → Stop → Result Stop Refusal
+must_spec wanted s = must_as wanted s.ending s
 
 abbrev pub must_end_spec : Stop → Result Stop Refusal
-must_end_spec s = must_end_as s.ending s
+must_end_spec s = must_spec End s
 
 abbrev pub must_loop_as : Ending → Stop → Result Stop Refusal
 must_loop_as Text s = Err (Shape s.pos)

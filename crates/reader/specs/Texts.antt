@@ -1,16 +1,14 @@
 -- A text that is read: its program, and the limits that it keeps.
-use Rattle.std.specs.Prelude.{◌≡◌, ℕ, ◌+◌, ◌-◌, false, cond, List, length, drop, Ok, Err, Result, nat_lt}
+use Rattle.std.specs.Prelude.{◌≡◌, ℕ, ◌+◌, ◌-◌, false, cond, List, length, drop, Ok, Result, nat_lt}
 use Rattle.lanes.specs.Syntax.{Program}
 use Rattle.grammar.specs.Spelling.{SpellsBody, Named}
 use Rattle.grammar.specs.Taken.{Taken, lines_in}
 use Rattle.grammar.specs.Walk.{and_then, place_in}
 use Rattle.grammar.specs.declared.refusals.Refusal.{Refusal}
-use Rattle.grammar.specs.declared.refusals.Refusal.TheVariants.{Shape as No-text}
 use Rattle.reader.specs.Heads.{Found, own_at, cells_at}
-use Rattle.reader.specs.Blocks.{block_at}
+use Rattle.reader.specs.Blocks.{must_spec, block_at}
 use Rattle.reader.specs.declared.heads.Head.{Head}
-use Rattle.reader.specs.declared.blocks.Ending.{Ending}
-use Rattle.reader.specs.declared.blocks.Ending.TheVariants.{Text, Else, End}
+use Rattle.reader.specs.declared.blocks.Ending.TheVariants.{Text}
 use Rattle.reader.specs.declared.blocks.Stop.{Stop}
 use Rattle.reader.specs.declared.texts.Shape.{Shape}
 
@@ -33,13 +31,8 @@ EveryRead text r = (ns : List (List ℕ)) (p : Program) → Taken ns p text → 
 abbrev pub head_lines_spec : ℕ → ℕ → ℕ
 head_lines_spec c b = cond (nat_lt 0 c) 1 0 + cond (nat_lt c b) 1 0
 
-abbrev pub whole_as : Ending → Stop → Result Stop Refusal
-whole_as Text s = Ok s
-whole_as Else s = Err (No-text (s.next - 1))
-whole_as End s = Err (No-text (s.next - 1))
-
 abbrev pub whole : Stop → Result Stop Refusal
-whole s = whole_as s.ending s
+whole s = must_spec Text s
 
 abbrev pub shape_of : Found → Head → Stop → Shape
 shape_of f h e = record { owns = length f.names; cells = h.many; lines = 1024 - e.left; body_at = h.next; first = head_lines_spec f.next h.next }

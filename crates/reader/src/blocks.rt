@@ -1,8 +1,8 @@
 // Lines in each other.
-ghost use Rattle.std.specs.Prelude.{◌≡◌, ℕ, ◌<◌, ◌≤◌, Bool, ◌&&◌, List, length, IfOk, OnOk, ◌==◌};
+ghost use Rattle.std.specs.Prelude.{◌≡◌, ℕ, ◌<◌, ◌≤◌, Bool, List, length, IfOk, OnOk};
 ghost use Rattle.grammar.specs.Names.{NamesIn};
 ghost use Rattle.grammar.specs.Walk.{place_in};
-ghost use Rattle.reader.specs.Blocks.{opens, next_at, must_end_spec, must_loop_spec, block_at, kind_of_spec, is_else_spec};
+ghost use Rattle.reader.specs.Blocks.{opens, next_at, must_spec, must_loop_spec, block_at, kind_of_spec};
 
 use grammar::keywords::Keyword;
 use grammar::lines::{Line, Lined, parse_line};
@@ -10,7 +10,7 @@ use grammar::refusals::{Refusal, refusal_place};
 use grammar::tokens::key_here;
 
 // Where lines in a block end: with the text, or before an else or an end.
-#[derive(Clone, Copy)]
+#[derive(Clone, Copy, PartialEq, Eq, Debug)]
 pub enum Ending {
     Text,
     Else,
@@ -19,7 +19,7 @@ pub enum Ending {
 
 // How a block ended: the ending line begins at pos, the line behind it at next; `left` lines may still come;
 // `some` says that the block had a line.
-#[derive(Clone, Copy)]
+#[derive(Clone, Copy, PartialEq, Eq, Debug)]
 pub struct Stop {
     pub ending: Ending,
     pub some: bool,
@@ -32,21 +32,11 @@ pub struct Stop {
 fn opens(key: Option<Keyword>) -> bool
     ensures { result ≡ opens key }
 {
-    match key {
-        Some(Keyword::If) => true,
-        Some(Keyword::While) => true,
-        _ => false,
-    }
-}
-
-// A block may not begin here.
-fn blocked(deep: usize, key: Option<Keyword>) -> bool
-    ensures { result ≡ (deep == 0 && opens key) }
-{
-    deep == 0 && opens(key)
+    matches!(key, Some(Keyword::If | Keyword::While))
 }
 
 // The line at byte pos, if a line may still come, and if it may open a block where it opens one.
+#[tactic(auto, unfolding(crate::specs::Blocks::next_at))]
 fn next_line(text: &[u8], pos: usize, left: usize, deep: usize) -> Result<Lined, Refusal>
     ensures walk { (ns : List (List ℕ)) → NamesIn ns text.now → result ≡ next_at (place_in ns) text.now deep left pos }
     ensures more { OnOk result (0 < left) }
@@ -55,24 +45,18 @@ fn next_line(text: &[u8], pos: usize, left: usize, deep: usize) -> Result<Lined,
     if left == 0 {
         // Another fault at this very byte has the lower number.
         return match lined {
-            Ok(_) => Err(Refusal::ManyLines(pos)),
-            Err(refusal) => {
-                if refusal_place(refusal) == pos {
-                    Err(refusal)
-                } else {
-                    Err(Refusal::ManyLines(pos))
-                }
-            }
+            Err(refusal) if refusal_place(refusal) == pos => lined,
+            _ => Err(Refusal::ManyLines(pos)),
         };
     }
-    if blocked(deep, key_here(text, pos)) {
+    if deep == 0 && opens(key_here(text, pos)) {
         return Err(Refusal::Deep(pos));
     }
     lined
 }
 
 // What a line is to the lines around it.
-#[derive(Clone, Copy)]
+#[derive(Clone, Copy, PartialEq, Eq, Debug)]
 pub enum Kind {
     Plain,
     Opens,
@@ -93,40 +77,28 @@ fn kind_of(line: Line) -> Kind
     }
 }
 
-fn is_else(ending: Ending) -> bool
-    ensures { result ≡ is_else_spec ending }
-{
-    match ending {
-        Ending::Else => true,
-        _ => false,
-    }
-}
-
-// A block that must end with `end`. The byte behind the word is the one before the next line.
-fn must_end(stop: Stop) -> Result<Stop, Refusal>
-    ensures { result ≡ must_end_spec stop }
-{
-    match stop.ending {
-        Ending::Text => Err(Refusal::Shape(stop.pos)),
-        Ending::Else => Err(Refusal::Shape(stop.next.saturating_sub(1))),
-        Ending::End => Ok(stop),
+impl Stop {
+    // The block, which must end so. The byte behind an `else` or an `end` is the one before the next line.
+    pub(crate) fn must(self, wanted: Ending) -> Result<Stop, Refusal>
+        ensures { result ≡ must_spec wanted self }
+    {
+        match self.ending {
+            ending if ending == wanted => Ok(self),
+            Ending::Text => Err(Refusal::Shape(self.pos)),
+            Ending::Else | Ending::End => Err(Refusal::Shape(self.next.saturating_sub(1))),
+        }
     }
 }
 
 // The block of a while has a line at least.
-fn must_loop(stop: Stop) -> Result<Stop, Refusal>
-    ensures { result ≡ must_loop_spec stop }
+fn must_loop(body: Stop) -> Result<Stop, Refusal>
+    ensures { result ≡ must_loop_spec body }
 {
-    match stop.ending {
-        Ending::Text => Err(Refusal::Shape(stop.pos)),
-        Ending::Else => Err(Refusal::Shape(stop.next.saturating_sub(1))),
-        Ending::End => {
-            if stop.some {
-                Ok(stop)
-            } else {
-                Err(Refusal::Shape(stop.next.saturating_sub(1)))
-            }
-        }
+    let stop = body.must(Ending::End)?;
+    if stop.some {
+        Ok(stop)
+    } else {
+        Err(Refusal::Shape(stop.next.saturating_sub(1)))
     }
 }
 
@@ -170,12 +142,12 @@ pub fn block(text: &[u8], pos: usize, left: usize, deep: usize, some: bool) -> R
         }
         Kind::Opens => {
             let first = block(text, lined.next, fewer, deep.saturating_sub(1), false)?;
-            if is_else(first.ending) {
+            if first.ending == Ending::Else {
                 let second = block(text, first.next, first.left, deep.saturating_sub(1), false)?;
-                let last = must_end(second)?;
+                let last = second.must(Ending::End)?;
                 return block(text, last.next, last.left, deep, true);
             }
-            let end = must_end(first)?;
+            let end = first.must(Ending::End)?;
             block(text, end.next, end.left, deep, true)
         }
     }

@@ -3,7 +3,7 @@ ghost use Rattle.std.specs.Prelude.{◌≡◌, ℕ, ◌≤◌, List, ◌++◌, l
 ghost use Rattle.std.specs.List.{between, flat_map};
 ghost use Rattle.grammar.specs.Spelling.{one_of};
 ghost use Rattle.grammar.specs.Stands.{Apart};
-ghost use Rattle.reader.specs.Heads.{Words, spaced, name_at, own_at, counted, cells_at, is_own_spec, is_cells_spec};
+ghost use Rattle.reader.specs.Heads.{Words, spaced, name_at, own_at, counted, cells_at};
 
 use grammar::bytes::{byte, is_digit, is_letter};
 use grammar::keywords::{Keyword, keyword_of};
@@ -13,28 +13,10 @@ use grammar::tokens::{expect, key_here};
 use grammar::words::word_end;
 
 // How many there are, and the byte at which the next line begins.
-#[derive(Clone, Copy)]
+#[derive(Clone, Copy, PartialEq, Eq, Debug)]
 pub struct Head {
     pub many: usize,
     pub next: usize,
-}
-
-fn is_own(key: Option<Keyword>) -> bool
-    ensures { result ≡ is_own_spec key }
-{
-    match key {
-        Some(Keyword::Own) => true,
-        _ => false,
-    }
-}
-
-fn is_cells(key: Option<Keyword>) -> bool
-    ensures { result ≡ is_cells_spec key }
-{
-    match key {
-        Some(Keyword::Cells) => true,
-        _ => false,
-    }
 }
 
 // The bytes from..to are one of the first `many` names of the own line.
@@ -59,6 +41,7 @@ fn named_before(text: &[u8], from: usize, to: usize, many: usize) -> bool
 }
 
 // The byte behind the name at byte i, which is to be name number `many`.
+#[tactic(auto, unfolding(crate::specs::Heads::name_at))]
 fn new_name(text: &[u8], i: usize, many: usize) -> Result<usize, Refusal>
     ensures { (seen : List (List ℕ)) (z : List ℕ) → length seen ≡ many → Words seen → Apart z → drop 3 text.now ≡ spaced seen ++ z → result ≡ name_at seen text.now i }
 {
@@ -69,7 +52,7 @@ fn new_name(text: &[u8], i: usize, many: usize) -> Result<usize, Refusal>
     if end - i > 8 {
         return Err(Refusal::Shape(i + 8));
     }
-    if let Some(_key) = keyword_of(&text[i..end]) {
+    if keyword_of(&text[i..end]).is_some() {
         return Err(Refusal::Shape(end));
     }
     if named_before(text, i, end, many) {
@@ -86,7 +69,7 @@ fn new_name(text: &[u8], i: usize, many: usize) -> Result<usize, Refusal>
 pub fn own_line(text: &[u8]) -> Result<Head, Refusal>
     ensures { result ≡ counted (own_at text.now) }
 {
-    if !is_own(key_here(text, 0)) {
+    if key_here(text, 0) != Some(Keyword::Own) {
         return Ok(Head { many: 0, next: 0 });
     }
     let mut end = 3;
@@ -105,10 +88,11 @@ pub fn own_line(text: &[u8]) -> Result<Head, Refusal>
 }
 
 // The line with the number of cells, if one begins at byte pos.
+#[tactic(auto, unfolding(crate::specs::Heads::cells_at))]
 pub fn cells_line(text: &[u8], pos: usize) -> Result<Head, Refusal>
     ensures { result ≡ cells_at text.now pos }
 {
-    if !is_cells(key_here(text, pos)) {
+    if key_here(text, pos) != Some(Keyword::Cells) {
         return Ok(Head { many: 0, next: pos });
     }
     let at = expect(text, pos, b"cells ")?;
@@ -116,15 +100,13 @@ pub fn cells_line(text: &[u8], pos: usize) -> Result<Head, Refusal>
         return Err(Refusal::Shape(at));
     }
     let number = read_number(text, at);
-    if number.value > 16384 {
-        return Err(Refusal::ManyCells(at));
-    }
+    let many = match number.value {
+        Some(many) if many <= 16384 => many as usize,
+        _ => return Err(Refusal::ManyCells(at)),
+    };
     if number.end.saturating_sub(pos) > 1024 {
         return Err(Refusal::Long(pos + 1024));
     }
     let next = expect(text, number.end, b"\n")?;
-    Ok(Head {
-        many: number.value as usize,
-        next,
-    })
+    Ok(Head { many, next })
 }

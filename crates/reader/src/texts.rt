@@ -3,15 +3,15 @@ ghost use Rattle.std.specs.Prelude.{◌≡◌, ℕ, List, IfOk, Err};
 ghost use Rattle.grammar.specs.Names.{NamesIn};
 ghost use Rattle.grammar.specs.Walk.{place_in};
 ghost use Rattle.reader.specs.Goeson.{GoesOn};
-ghost use Rattle.reader.specs.Texts.{head_lines_spec, whole, read_at, ReadAs, EveryRead};
+ghost use Rattle.reader.specs.Texts.{head_lines_spec, read_at, ReadAs, EveryRead};
 
-use crate::blocks::{Ending, Stop, block};
+use crate::blocks::{Ending, block};
 use crate::heads::{cells_line, own_line};
 use grammar::refusals::Refusal;
 
 // What there is in a text that is taken: how many own numbers, cells and lines, and the byte and the line (counted from 0)
 // at which the body begins.
-#[derive(Clone, Copy)]
+#[derive(Clone, Copy, PartialEq, Eq, Debug)]
 pub struct Shape {
     pub owns: usize,
     pub cells: usize,
@@ -28,17 +28,6 @@ fn head_lines(cells: usize, body: usize) -> usize
     if body > cells { own + 1 } else { own }
 }
 
-// The text ends where the lines of its body end.
-fn whole(stop: Stop) -> Result<Stop, Refusal>
-    ensures { result ≡ whole stop }
-{
-    match stop.ending {
-        Ending::Text => Ok(stop),
-        Ending::Else => Err(Refusal::Shape(stop.next.saturating_sub(1))),
-        Ending::End => Err(Refusal::Shape(stop.next.saturating_sub(1))),
-    }
-}
-
 // Reads a text: what is in it, if it spells a program within the limits; or why it is refused. No text that spells a program
 // within the limits is refused. A refusal with number 1 stands at the first byte at which no text goes on so.
 pub fn read(text: &[u8]) -> Result<Shape, Refusal>
@@ -51,7 +40,7 @@ pub fn read(text: &[u8]) -> Result<Shape, Refusal>
     let cells = cells_line(text, own.next)?;
     let first = head_lines(own.next, cells.next);
     let stop = block(text, cells.next, 1024 - first, 16, false)?;
-    let end = whole(stop)?;
+    let end = stop.must(Ending::Text)?;
     Ok(Shape {
         owns: own.many,
         cells: cells.many,

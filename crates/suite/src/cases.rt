@@ -33,12 +33,12 @@ fn find_part(file: &[u8], at: usize, name: &[u8]) -> Option<Part> {
     if number.end >= file.len() {
         return None;
     }
-    let behind = file.len() - number.end;
-    if number.value >= behind as u64 {
+    let len = number.value? as usize;
+    if len >= file.len() - number.end {
         return None;
     }
     let from = number.end + 1;
-    let to = from + number.value as usize;
+    let to = from + len;
     Some(Part {
         from,
         to,

@@ -45,8 +45,8 @@ fn is_read(text: &[u8], told: &[u8]) -> bool {
             let number = read_number(told, 8);
             let place = read_number(told, 13);
             is_refusal(told)
-                && number.value == refusal_number(refusal) as u64
-                && place.value == refusal_place(refusal) as u64
+                && number.value == Some(refusal_number(refusal) as u32)
+                && place.value.map(u64::from) == Some(refusal_place(refusal) as u64)
         }
     }
 }

@@ -3,7 +3,7 @@ use Rattle.std.proofs.lemmas.Result.{err_from_is_err_and}
 use Rattle.grammar.specs.Walk.{place_in}
 use Rattle.reader.specs.Blocks.{block_at}
 use Rattle.reader.specs.declared.blocks.Kind.TheVariants.{Plain, Opens, Loops, Parts, Closes}
-use Rattle.reader.proofs.Nexts.{made-less, then-err, then_ok, block-text, block-step, block-kind, loop-left, end-left, cond-taken, cond-passed}
+use Rattle.reader.proofs.Nexts.{made-less, then-err, then_ok, block-text, block-step, block-kind, loop-left, end-left, same_else, cond-taken, cond-passed}
 use Rattle.reader.proofs.blocks.+block.Goals as goal
 
 pub returns-then-pos-text : goal.returns-then-pos-text
@@ -61,24 +61,24 @@ returns-in_err-second-in-Opens t c =
     let p = err_from_is_err_and c.from_residual-in_err-second-in-Opens.result c.from_residual-in_err-second-in-Opens.ensures.1 in
     let m : 0 < c.args.left = c.in_ok-lined.ensures.more in
     let q : c.in_ok-first-in-Opens.first.left ≤ c.args.left - 1 = c.in_ok-first-in-Opens.ensures.fewer in
-    rw (p.1, p.2) (record { fewer = tt; walk = λ ns f n h. then-err _ _ _ (c.in_err-second-in-Opens.ensures.walk ns (f - 1) n (omega arith) ∙ ap (λ d. block_at (place_in ns) c.args.text.now (f - 1) d c.in_ok-first-in-Opens.first.left c.in_ok-first-in-Opens.first.next false) c.saturating_sub-then-is_else.ensures) ∙ cond-taken _ _ _ (sym c.if-is_else.ensures) ∙ then_ok _ _ _ (c.in_ok-first-in-Opens.ensures.walk ns (f - 1) n (omega arith) ∙ ap (λ d. block_at (place_in ns) c.args.text.now (f - 1) d (c.args.left - 1) c.in_ok-lined.lined.next false) c.saturating_sub-in-Opens.ensures) ∙ block-kind (place_in ns) c.args.text.now c.args.deep c.args.left c.args.pos c.args.some f c.in_ok-lined.lined Opens h (omega arith) (c.in_ok-lined.ensures.walk ns n) c.in-Opens.ensures })
+    rw (p.1, p.2) (record { fewer = tt; walk = λ ns f n h. then-err _ _ _ (c.in_err-second-in-Opens.ensures.walk ns (f - 1) n (omega arith) ∙ ap (λ d. block_at (place_in ns) c.args.text.now (f - 1) d c.in_ok-first-in-Opens.first.left c.in_ok-first-in-Opens.first.next false) c.saturating_sub-then-eq.ensures) ∙ cond-taken _ _ _ (sym (c.eq.ensures ∙ same_else _) ∙ c.if-eq.true) ∙ then_ok _ _ _ (c.in_ok-first-in-Opens.ensures.walk ns (f - 1) n (omega arith) ∙ ap (λ d. block_at (place_in ns) c.args.text.now (f - 1) d (c.args.left - 1) c.in_ok-lined.lined.next false) c.saturating_sub-in-Opens.ensures) ∙ block-kind (place_in ns) c.args.text.now c.args.deep c.args.left c.args.pos c.args.some f c.in_ok-lined.lined Opens h (omega arith) (c.in_ok-lined.ensures.walk ns n) c.in-Opens.ensures })
 
 pub returns-in_err-last-in-Opens : goal.returns-in_err-last-in-Opens
 returns-in_err-last-in-Opens t c =
     let p = err_from_is_err_and c.from_residual-in_err-last-in-Opens.result c.from_residual-in_err-last-in-Opens.ensures.1 in
     let m : 0 < c.args.left = c.in_ok-lined.ensures.more in
     let q : c.in_ok-first-in-Opens.first.left ≤ c.args.left - 1 = c.in_ok-first-in-Opens.ensures.fewer in
-    rw (p.1, p.2) (record { fewer = tt; walk = λ ns f n h. then-err _ _ _ c.in_err-last-in-Opens.ensures ∙ then_ok _ _ _ (c.in_ok-second-in-Opens.ensures.walk ns (f - 1) n (omega arith) ∙ ap (λ d. block_at (place_in ns) c.args.text.now (f - 1) d c.in_ok-first-in-Opens.first.left c.in_ok-first-in-Opens.first.next false) c.saturating_sub-then-is_else.ensures) ∙ cond-taken _ _ _ (sym c.if-is_else.ensures) ∙ then_ok _ _ _ (c.in_ok-first-in-Opens.ensures.walk ns (f - 1) n (omega arith) ∙ ap (λ d. block_at (place_in ns) c.args.text.now (f - 1) d (c.args.left - 1) c.in_ok-lined.lined.next false) c.saturating_sub-in-Opens.ensures) ∙ block-kind (place_in ns) c.args.text.now c.args.deep c.args.left c.args.pos c.args.some f c.in_ok-lined.lined Opens h (omega arith) (c.in_ok-lined.ensures.walk ns n) c.in-Opens.ensures })
+    rw (p.1, p.2) (record { fewer = tt; walk = λ ns f n h. then-err _ _ _ c.in_err-last-in-Opens.ensures ∙ then_ok _ _ _ (c.in_ok-second-in-Opens.ensures.walk ns (f - 1) n (omega arith) ∙ ap (λ d. block_at (place_in ns) c.args.text.now (f - 1) d c.in_ok-first-in-Opens.first.left c.in_ok-first-in-Opens.first.next false) c.saturating_sub-then-eq.ensures) ∙ cond-taken _ _ _ (sym (c.eq.ensures ∙ same_else _) ∙ c.if-eq.true) ∙ then_ok _ _ _ (c.in_ok-first-in-Opens.ensures.walk ns (f - 1) n (omega arith) ∙ ap (λ d. block_at (place_in ns) c.args.text.now (f - 1) d (c.args.left - 1) c.in_ok-lined.lined.next false) c.saturating_sub-in-Opens.ensures) ∙ block-kind (place_in ns) c.args.text.now c.args.deep c.args.left c.args.pos c.args.some f c.in_ok-lined.lined Opens h (omega arith) (c.in_ok-lined.ensures.walk ns n) c.in-Opens.ensures })
 
-pub returns-then-is_else : goal.returns-then-is_else
-returns-then-is_else t c =
+pub returns-then-eq : goal.returns-then-eq
+returns-then-eq t c =
     let m : 0 < c.args.left = c.in_ok-lined.ensures.more in
     let q : c.in_ok-first-in-Opens.first.left ≤ c.args.left - 1 = c.in_ok-first-in-Opens.ensures.fewer in
     let e : c.in_ok-last-in-Opens.last.left ≡ c.in_ok-second-in-Opens.second.left = end-left c.in_ok-second-in-Opens.second c.in_ok-last-in-Opens.last c.in_ok-last-in-Opens.ensures in
     let b : c.in_ok-second-in-Opens.second.left ≤ c.in_ok-first-in-Opens.first.left = c.in_ok-second-in-Opens.ensures.fewer in
     record {
-      fewer = made-less c.block-then-is_else-2.result c.in_ok-last-in-Opens.last.left c.args.left (omega arith) c.block-then-is_else-2.ensures.fewer;
-      walk = λ ns f n h. c.block-then-is_else-2.ensures.walk ns (f - 1) n (omega arith) ∙ then_ok _ _ _ c.in_ok-last-in-Opens.ensures ∙ then_ok _ _ _ (c.in_ok-second-in-Opens.ensures.walk ns (f - 1) n (omega arith) ∙ ap (λ d. block_at (place_in ns) c.args.text.now (f - 1) d c.in_ok-first-in-Opens.first.left c.in_ok-first-in-Opens.first.next false) c.saturating_sub-then-is_else.ensures) ∙ cond-taken _ _ _ (sym c.if-is_else.ensures) ∙ then_ok _ _ _ (c.in_ok-first-in-Opens.ensures.walk ns (f - 1) n (omega arith) ∙ ap (λ d. block_at (place_in ns) c.args.text.now (f - 1) d (c.args.left - 1) c.in_ok-lined.lined.next false) c.saturating_sub-in-Opens.ensures) ∙ block-kind (place_in ns) c.args.text.now c.args.deep c.args.left c.args.pos c.args.some f c.in_ok-lined.lined Opens h (omega arith) (c.in_ok-lined.ensures.walk ns n) c.in-Opens.ensures;
+      fewer = made-less c.block-then-eq-2.result c.in_ok-last-in-Opens.last.left c.args.left (omega arith) c.block-then-eq-2.ensures.fewer;
+      walk = λ ns f n h. c.block-then-eq-2.ensures.walk ns (f - 1) n (omega arith) ∙ then_ok _ _ _ c.in_ok-last-in-Opens.ensures ∙ then_ok _ _ _ (c.in_ok-second-in-Opens.ensures.walk ns (f - 1) n (omega arith) ∙ ap (λ d. block_at (place_in ns) c.args.text.now (f - 1) d c.in_ok-first-in-Opens.first.left c.in_ok-first-in-Opens.first.next false) c.saturating_sub-then-eq.ensures) ∙ cond-taken _ _ _ (sym (c.eq.ensures ∙ same_else _) ∙ c.if-eq.true) ∙ then_ok _ _ _ (c.in_ok-first-in-Opens.ensures.walk ns (f - 1) n (omega arith) ∙ ap (λ d. block_at (place_in ns) c.args.text.now (f - 1) d (c.args.left - 1) c.in_ok-lined.lined.next false) c.saturating_sub-in-Opens.ensures) ∙ block-kind (place_in ns) c.args.text.now c.args.deep c.args.left c.args.pos c.args.some f c.in_ok-lined.lined Opens h (omega arith) (c.in_ok-lined.ensures.walk ns n) c.in-Opens.ensures;
     }
 
 pub returns-in_err-end-in-Opens : goal.returns-in_err-end-in-Opens
@@ -86,7 +86,7 @@ returns-in_err-end-in-Opens t c =
     let p = err_from_is_err_and c.from_residual-in_err-end-in-Opens.result c.from_residual-in_err-end-in-Opens.ensures.1 in
     let m : 0 < c.args.left = c.in_ok-lined.ensures.more in
     let q : c.in_ok-first-in-Opens.first.left ≤ c.args.left - 1 = c.in_ok-first-in-Opens.ensures.fewer in
-    rw (p.1, p.2) (record { fewer = tt; walk = λ ns f n h. then-err _ _ _ c.in_err-end-in-Opens.ensures ∙ cond-passed _ _ _ (sym c.if-is_else.ensures) ∙ then_ok _ _ _ (c.in_ok-first-in-Opens.ensures.walk ns (f - 1) n (omega arith) ∙ ap (λ d. block_at (place_in ns) c.args.text.now (f - 1) d (c.args.left - 1) c.in_ok-lined.lined.next false) c.saturating_sub-in-Opens.ensures) ∙ block-kind (place_in ns) c.args.text.now c.args.deep c.args.left c.args.pos c.args.some f c.in_ok-lined.lined Opens h (omega arith) (c.in_ok-lined.ensures.walk ns n) c.in-Opens.ensures })
+    rw (p.1, p.2) (record { fewer = tt; walk = λ ns f n h. then-err _ _ _ c.in_err-end-in-Opens.ensures ∙ cond-passed _ _ _ (sym (c.eq.ensures ∙ same_else _) ∙ c.if-eq.false) ∙ then_ok _ _ _ (c.in_ok-first-in-Opens.ensures.walk ns (f - 1) n (omega arith) ∙ ap (λ d. block_at (place_in ns) c.args.text.now (f - 1) d (c.args.left - 1) c.in_ok-lined.lined.next false) c.saturating_sub-in-Opens.ensures) ∙ block-kind (place_in ns) c.args.text.now c.args.deep c.args.left c.args.pos c.args.some f c.in_ok-lined.lined Opens h (omega arith) (c.in_ok-lined.ensures.walk ns n) c.in-Opens.ensures })
 
 pub returns-in_ok-end-in-Opens : goal.returns-in_ok-end-in-Opens
 returns-in_ok-end-in-Opens t c =
@@ -95,5 +95,5 @@ returns-in_ok-end-in-Opens t c =
     let e : c.in_ok-end-in-Opens.end.left ≡ c.in_ok-first-in-Opens.first.left = end-left c.in_ok-first-in-Opens.first c.in_ok-end-in-Opens.end c.in_ok-end-in-Opens.ensures in
     record {
       fewer = made-less c.block-in-Opens-2.result c.in_ok-end-in-Opens.end.left c.args.left (omega arith) c.block-in-Opens-2.ensures.fewer;
-      walk = λ ns f n h. c.block-in-Opens-2.ensures.walk ns (f - 1) n (omega arith) ∙ then_ok _ _ _ c.in_ok-end-in-Opens.ensures ∙ cond-passed _ _ _ (sym c.if-is_else.ensures) ∙ then_ok _ _ _ (c.in_ok-first-in-Opens.ensures.walk ns (f - 1) n (omega arith) ∙ ap (λ d. block_at (place_in ns) c.args.text.now (f - 1) d (c.args.left - 1) c.in_ok-lined.lined.next false) c.saturating_sub-in-Opens.ensures) ∙ block-kind (place_in ns) c.args.text.now c.args.deep c.args.left c.args.pos c.args.some f c.in_ok-lined.lined Opens h (omega arith) (c.in_ok-lined.ensures.walk ns n) c.in-Opens.ensures;
+      walk = λ ns f n h. c.block-in-Opens-2.ensures.walk ns (f - 1) n (omega arith) ∙ then_ok _ _ _ c.in_ok-end-in-Opens.ensures ∙ cond-passed _ _ _ (sym (c.eq.ensures ∙ same_else _) ∙ c.if-eq.false) ∙ then_ok _ _ _ (c.in_ok-first-in-Opens.ensures.walk ns (f - 1) n (omega arith) ∙ ap (λ d. block_at (place_in ns) c.args.text.now (f - 1) d (c.args.left - 1) c.in_ok-lined.lined.next false) c.saturating_sub-in-Opens.ensures) ∙ block-kind (place_in ns) c.args.text.now c.args.deep c.args.left c.args.pos c.args.some f c.in_ok-lined.lined Opens h (omega arith) (c.in_ok-lined.ensures.walk ns n) c.in-Opens.ensures;
     }

@@ -1,19 +1,22 @@
-use Rattle.std.proofs.Common.{◌≡◌, ◌+◌, ◌-◌, [], ◌∷◌, ◌++◌, length, Ok, sym, refl, ap, ◌∙◌, arith}
+use Rattle.std.proofs.Common.{rules, true, false, ◌≡◌, ◌+◌, ◌-◌, [], ◌∷◌, ◌++◌, length, Ok, sym, refl, ap, ◌∙◌, arith}
 use Rattle.std.proofs.lemmas.List.{length_push}
 use Rattle.std.proofs.lemmas.Result.{err_from_is_err_and}
 use Rattle.grammar.specs.Walk.{word_part}
-use Rattle.reader.specs.Heads.{counted}
+use Rattle.reader.specs.Heads.{counted, is_own_spec}
 use Rattle.reader.proofs.Nexts.{then-err, then_ok}
 use Rattle.reader.proofs.Names.{own-none, own-some, names-step}
 use Rattle.reader.proofs.Owns.{walk_start, walk-on, walk-words, names-on, names-end, name-sound}
 use Rattle.reader.proofs.heads.own_line.Goals as goal
 
-pub returns-then-not-is_own : goal.returns-then-not-is_own
-returns-then-not-is_own c = own-none c.args.text.now (rw c.key_here.ensures at (sym c.if-not-is_own.ensures))
+pub returns-then-ne : goal.returns-then-ne
+returns-then-ne c =
+    let h : is_own_spec c.key_here.result ≡ false = search rules in
+    own-none c.args.text.now (rw c.key_here.ensures at h)
 
 pub loop-at-init : goal.loop-at-init
 loop-at-init c =
-    let h = rw c.key_here.ensures at (sym c.if-not-is_own.ensures) in
+    let p : is_own_spec c.key_here.result ≡ true = search rules in
+    let h = rw c.key_here.ensures at p in
     (omega arith, ([], refl, walk_start c.args.text.now h, own-some c.args.text.now h))
 
 pub returns-in_err-at : goal.returns-in_err-at

@@ -1,11 +1,10 @@
 -- Where a byte stands in a text.
-use Rattle.std.specs.Prelude.{◌≡◌, ℕ, suc, ◌+◌, ◌<◌, ◌≤◌, min, cond, ◌≢◌, List, [], ◌∷◌, length, take, ◌==◌, slice_index}
+use Rattle.std.specs.Prelude.{◌≡◌, ℕ, suc, ◌+◌, ◌<◌, ◌≤◌, min, ◌≢◌, List, length, take, count_by, ◌==◌, slice_index}
 use Rattle.cli.specs.declared.spot.Spot.{Spot}
 
 -- How many bytes 10.
-unfoldable pub newlines : List ℕ → ℕ
-newlines [] = 0
-newlines (b ∷ bs) = cond (b == 10) 1 0 + newlines bs
+abbrev pub newlines : List ℕ → ℕ
+newlines bs = count_by (λ b. b == 10) bs
 
 -- Byte i of the text, or its end if i lies behind it, is in this line, counted from 1, and at this column, counted from 1;
 -- the line lies from start up to end, and has no byte 10.

@@ -2,12 +2,12 @@
 use Rattle.std.proofs.Common.{◌≡◌, ℕ, zero, suc, ◌+◌, ◌*◌, ◌/◌, ◌%◌, ◌<◌, ◌≤◌, List, ◌++◌, map, length, get_or, drop, IfOk, Ok, Err, Result, sym, refl, ap, ◌∙◌, subst, mod-eq_of_lt, zero-add, arith}
 use native.Mathlib.Nat.{div-eq_of_lt, add-mul-mod_self_left, add-mul-div_left}
 use Rattle.std.specs.List.{range_with_len}
-use Rattle.std.proofs.lemmas.List.{append_assoc, drop_more, drop_all}
+use Rattle.std.proofs.lemmas.List.{drop_more, drop_all}
 use Rattle.std.proofs.lemmas.List.FromFn.{length-map-range_with_len}
 use Rattle.std.proofs.lemmas.Bool.Decides.{nat_tests}
 use Rattle.formats.specs.declared.field.Header.{Header}
 use Rattle.formats.specs.declared.refusal.Refusal.{Refusal}
-use Rattle.formats.specs.Bytes.{two, four, eight, two_bytes, four_bytes, eight_bytes}
+use Rattle.formats.specs.Bytes.{number_at, low_bytes}
 use Rattle.formats.specs.Field.{cells_bytes, field_bytes, InRange, read_with, read_as, cell_at, cells_read, IsField}
 
 abbrev Bytes : List ℕ → Type 0
@@ -19,53 +19,34 @@ low a b m h = add-mul-mod_self_left a m b ∙ mod-eq_of_lt h
 high : (a b m : ℕ) → a < m → (a + m * b) / m ≡ b
 high a b m h = add-mul-div_left a b (omega arith) ∙ ap (λ n. n + b) (div-eq_of_lt h) ∙ zero-add b
 
-two-again : (bs : List ℕ) (i j : ℕ) → Bytes bs → j ≡ i + 2 → j ≤ length bs → drop i bs ≡ two_bytes (two bs i) ++ drop j bs
-two-again bs i j small e h =
-    let z : i + 1 + 1 ≡ j = omega arith in
+-- Bytes are the low bytes of what they mean.
+again : (k : ℕ) (bs : List ℕ) (i j : ℕ) → Bytes bs → j ≡ i + k → j ≤ length bs → drop i bs ≡ low_bytes k (number_at k bs i) ++ drop j bs
+unfolding number_at low_bytes
+again zero bs i j small e h = let z : i ≡ j = omega arith in rw z
+again (suc k) bs i j small e h =
     rw (
-      high (get_or bs i 0) (get_or bs (i + 1) 0) 256 (small i),
-      low (get_or bs i 0) (get_or bs (i + 1) 0) 256 (small i),
-      mod-eq_of_lt (small (i + 1)),
       drop_more bs i 0 (omega arith),
-      drop_more bs (i + 1) 0 (omega arith),
-      z,
+      again k bs (i + 1) j small (omega arith) h,
+      low (get_or bs i 0) (number_at k bs (i + 1)) 256 (small i),
+      high (get_or bs i 0) (number_at k bs (i + 1)) 256 (small i),
     )
-
-two-small : (bs : List ℕ) (i : ℕ) → Bytes bs → two bs i < 65536
-two-small bs i small = let a = small i in let b = small (i + 1) in omega arith
-
-four-small : (bs : List ℕ) (i : ℕ) → Bytes bs → four bs i < 4294967296
-four-small bs i small = let a = two-small bs i small in let b = two-small bs (i + 2) small in omega arith
-
--- Two halves that stand one behind the other.
-halves : (n a b m : ℕ) (f : ℕ → List ℕ) (xs : List ℕ) → n ≡ a + m * b → a < m → f a ++ (f b ++ xs) ≡ (f (n % m) ++ f (n / m)) ++ xs
-halves n a b m f xs e h = rw (e, low a b m h, high a b m h) (sym (append_assoc (f a) (f b) xs))
-
-four-again : (bs : List ℕ) (i j : ℕ) → Bytes bs → j ≡ i + 4 → j ≤ length bs → drop i bs ≡ four_bytes (four bs i) ++ drop j bs
-four-again bs i j small e h =
-    two-again bs i (i + 2) small refl (omega arith) ∙ ap (λ (x : List ℕ). two_bytes (two bs i) ++ x) (two-again bs (i + 2) j small (omega arith) h)
-    ∙ halves (four bs i) (two bs i) (two bs (i + 2)) 65536 two_bytes (drop j bs) refl (two-small bs i small)
-
-eight-again : (bs : List ℕ) (i j : ℕ) → Bytes bs → j ≡ i + 8 → j ≤ length bs → drop i bs ≡ eight_bytes (eight bs i) ++ drop j bs
-eight-again bs i j small e h =
-    four-again bs i (i + 4) small refl (omega arith) ∙ ap (λ (x : List ℕ). four_bytes (four bs i) ++ x) (four-again bs (i + 4) j small (omega arith) h)
-    ∙ halves (eight bs i) (four bs i) (four bs (i + 4)) 4294967296 four_bytes (drop j bs) refl (four-small bs i small)
 
 cells-again : (bs : List ℕ) (k i : ℕ) → Bytes bs → length bs ≡ 16 + 4 * (i + k) → drop (16 + 4 * i) bs ≡ cells_bytes (map (cell_at bs) (range_with_len i k))
 unfolding cells_bytes cell_at
 cells-again bs zero i small e = drop_all (16 + 4 * i) bs (omega arith)
 cells-again bs (suc k) i small e =
-    four-again bs (16 + 4 * i) (16 + 4 * (i + 1)) small (omega arith) (omega arith)
-    ∙ ap (λ (x : List ℕ). four_bytes (four bs (16 + 4 * i)) ++ x) (cells-again bs k (i + 1) small (omega arith))
+    again 4 bs (16 + 4 * i) (16 + 4 * (i + 1)) small (omega arith) (omega arith)
+    ∙ ap (λ (x : List ℕ). low_bytes 4 (number_at 4 bs (16 + 4 * i)) ++ x) (cells-again bs k (i + 1) small (omega arith))
 
 length-cells_read : (bs : List ℕ) (n : ℕ) → length (cells_read bs n) ≡ n
 unfolding cells_read
 length-cells_read bs n = length-map-range_with_len (cell_at bs) 0 n
 
-front-again : (bs : List ℕ) → Bytes bs → 16 ≤ length bs → bs ≡ two_bytes (two bs 0) ++ (two_bytes (two bs 2) ++ (eight_bytes (eight bs 4) ++ (four_bytes (four bs 12) ++ drop 16 bs)))
+front-again : (bs : List ℕ) → Bytes bs → 16 ≤ length bs
+    → bs ≡ low_bytes 2 (number_at 2 bs 0) ++ (low_bytes 2 (number_at 2 bs 2) ++ (low_bytes 8 (number_at 8 bs 4) ++ (low_bytes 4 (number_at 4 bs 12) ++ drop 16 bs)))
 front-again bs small h =
-    rw (sym (four-again bs 12 16 small refl h), sym (eight-again bs 4 12 small refl (omega arith)), sym (two-again bs 2 4 small refl (omega arith)))
-    (two-again bs 0 2 small refl (omega arith))
+    rw (sym (again 4 bs 12 16 small refl h), sym (again 8 bs 4 12 small refl (omega arith)), sym (again 2 bs 2 4 small refl (omega arith)))
+    (again 2 bs 0 2 small refl (omega arith))
 
 pub with-range : (n g l s k : ℕ) (h : Header) → read_with n g l s k ≡ Ok h → InRange g l s k
 with-range n g l s k h e =
@@ -84,18 +65,18 @@ with_size n g l s k h e = grind (arith, nat_tests)
 with-header : (n g l s k : ℕ) (h : Header) → read_with n g l s k ≡ Ok h → record { groups = g; lanes = l; steps = s; cells = k } ≡ h
 with-header n g l s k h e = grind (arith, nat_tests)
 
-field-again : (bs : List ℕ) → Bytes bs → length bs ≡ 16 + 4 * four bs 12 → bs ≡ field_bytes (two bs 0) (two bs 2) (eight bs 4) (cells_read bs (four bs 12))
+field-again : (bs : List ℕ) → Bytes bs → length bs ≡ 16 + 4 * number_at 4 bs 12 → bs ≡ field_bytes (number_at 2 bs 0) (number_at 2 bs 2) (number_at 8 bs 4) (cells_read bs (number_at 4 bs 12))
 unfolding field_bytes cells_read
 field-again bs small e =
-    rw (length-map-range_with_len (cell_at bs) 0 (four bs 12), sym (cells-again bs (four bs 12) 0 small (omega arith))) (front-again bs small (omega arith))
+    rw (length-map-range_with_len (cell_at bs) 0 (number_at 4 bs 12), sym (cells-again bs (number_at 4 bs 12) 0 small (omega arith))) (front-again bs small (omega arith))
 
 is_field : (bs : List ℕ) (h : Header) → Bytes bs → read_as bs ≡ Ok h → IsField bs h
 unfolding read_as
 is_field bs h small e =
-    let p = with-header (length bs) (two bs 0) (two bs 2) (eight bs 4) (four bs 12) h e in
-    let n = with_size (length bs) (two bs 0) (two bs 2) (eight bs 4) (four bs 12) h e in
-    let q : IsField bs (record { groups = two bs 0; lanes = two bs 2; steps = eight bs 4; cells = four bs 12 }) =
-    record { in_range = with-range (length bs) (two bs 0) (two bs 2) (eight bs 4) (four bs 12) h e; size = n; bytes = field-again bs small n } in
+    let p = with-header (length bs) (number_at 2 bs 0) (number_at 2 bs 2) (number_at 8 bs 4) (number_at 4 bs 12) h e in
+    let n = with_size (length bs) (number_at 2 bs 0) (number_at 2 bs 2) (number_at 8 bs 4) (number_at 4 bs 12) h e in
+    let q : IsField bs (record { groups = number_at 2 bs 0; lanes = number_at 2 bs 2; steps = number_at 8 bs 4; cells = number_at 4 bs 12 }) =
+    record { in_range = with-range (length bs) (number_at 2 bs 0) (number_at 2 bs 2) (number_at 8 bs 4) (number_at 4 bs 12) h e; size = n; bytes = field-again bs small n } in
     subst (λ (x : Header). IsField bs x) p q
 
 pub read-field : (bs : List ℕ) (r : Result Header Refusal) → Bytes bs → r ≡ read_as bs → IfOk r (λ h. IsField bs h)

@@ -2,7 +2,8 @@ pub mod Round
 pub mod Pieces
 pub mod Lines
 pub mod Words
-pub mod Bounds
 pub mod Again
 pub mod Fault
 pub mod Order
+pub mod Low
+pub mod Hex

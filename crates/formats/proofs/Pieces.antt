@@ -1,9 +1,12 @@
 -- One piece written behind another.
-use Rattle.std.proofs.Common.{◌≡◌, ℕ, ◌+◌, ◌<◌, ◌≤◌, List, [], ◌∷◌, ◌++◌, length, take, drop, set, sym, refl, ap, ◌∙◌, add-zero, add_assoc, add-one, arith}
-use Rattle.std.proofs.lemmas.List.{append_assoc, length-append, length-take-le, set_split, take_at, drop_at, drop-drop, take-append-drop}
-use Rattle.formats.specs.Wrote.{written, Wrote}
+use Rattle.std.proofs.Common.{◌≡◌, ℕ, ◌+◌, ◌<◌, ◌≤◌, List, [], ◌∷◌, ◌++◌, length, get_or, take, drop, set, sym, refl, ap, ◌∙◌, add-zero, add_assoc, add-one, arith}
+use Rattle.std.proofs.lemmas.List.{append_assoc, length-append, length-take-le, length-drop, take_more, flat_map_more, set_split, take_at, drop_at, drop-drop, take-append-drop}
+use Rattle.std.specs.List.{flat_map}
+use borrow.Rule.Slice.PartMut.{put_mid}
+use Rattle.formats.specs.declared.pen.Pen.{Pen}
+use Rattle.formats.specs.Wrote.{written, Wrote, Writes}
 
-pub wrote_none : (b : List ℕ) (at : ℕ) → Wrote b b at at []
+wrote_none : (b : List ℕ) (at : ℕ) → Wrote b b at at []
 unfolding written
 wrote_none b at = record { ends = sym (add-zero at); bytes = rw add-zero (sym (take-append-drop at b)) }
 
@@ -32,23 +35,44 @@ written_is : (xs ws : List ℕ) (at : ℕ) → written xs at ws ≡ take at xs +
 unfolding written
 written_is xs ws at = refl
 
-pub written-more : (b ws vs : List ℕ) (at : ℕ) → at ≤ length b → written (written b at ws) (at + length ws) vs ≡ written b at (ws ++ vs)
+written-more : (b ws vs : List ℕ) (at : ℕ) → at ≤ length b → written (written b at ws) (at + length ws) vs ≡ written b at (ws ++ vs)
 written-more b ws vs at h =
     rw (written_is (written b at ws) vs (at + length ws), written-front b ws at h, written-rest b ws at (length vs) h, written_is b (ws ++ vs) at, length-append ws vs, add_assoc at (length ws) (length vs))
     (simp append_assoc)
 
-pub wrote-more : (b m a : List ℕ) (at k to : ℕ) (ws vs : List ℕ) → at ≤ length b → Wrote b m at k ws → Wrote m a k to vs → Wrote b a at to (ws ++ vs)
+wrote-more : (b m a : List ℕ) (at k to : ℕ) (ws vs : List ℕ) → at ≤ length b → Wrote b m at k ws → Wrote m a k to vs → Wrote b a at to (ws ++ vs)
 wrote-more b m a at k to ws vs h p q =
     record {
       ends = rw length-append (omega (arith, p.ends, q.ends));
       bytes = rw (q.bytes, p.ends, p.bytes) (written-more b ws vs at h);
     }
 
--- Two pieces that are what is wanted.
-pub wrote-both : (b m a : List ℕ) (at k to : ℕ) (ws vs us : List ℕ) → at ≤ length b → Wrote b m at k ws → Wrote m a k to vs → ws ++ vs ≡ us → Wrote b a at to us
-wrote-both b m a at k to ws vs us h p q e = rw (sym e) (wrote-more b m a at k to ws vs h p q)
+-- A write to a part of the slice.
+pub wrote-part : (b ys ws : List ℕ) (at k : ℕ) → ys ≡ ws → k ≡ length ws → Wrote b (put_mid at k b ys) at (at + length ws) ws
+unfolding written
+wrote-part b ys ws at k e f = record { ends = refl; bytes = rw (e, f, drop-drop (length ws) at b) refl }
 
-pub wrote-three : (b m₁ m₂ a : List ℕ) (at k₁ k₂ to : ℕ) (ws vs us : List ℕ) → at ≤ length b → k₁ ≤ length m₁
-    → Wrote b m₁ at k₁ ws → Wrote m₁ m₂ k₁ k₂ vs → Wrote m₂ a k₂ to us → Wrote b a at to (ws ++ (vs ++ us))
-wrote-three b m₁ m₂ a at k₁ k₂ to ws vs us h₁ h₂ p₁ p₂ p₃ =
-    wrote-more b m₁ a at k₁ to ws (vs ++ us) h₁ p₁ (wrote-more m₁ m₂ a k₁ k₂ to vs us h₂ p₂ p₃)
+pub part-long : (b ys : List ℕ) (at k : ℕ) → at + k ≤ length b → length ys ≡ k → length (put_mid at k b ys) ≡ length b
+part-long b ys at k h e =
+    simp (length-append, length-drop) (omega (arith, length-take-le at b (omega arith)))
+
+-- The same for pens.
+pub writes_none : (a : Pen) → a.at ≤ length a.out.now → Writes a a []
+writes_none a h = record { same_slice = refl; room = refl; inside = h; wrote = wrote_none a.out.now a.at }
+
+pub writes_more : (a b c : Pen) (ws vs : List ℕ) → Writes a b ws → Writes b c vs → Writes a c (ws ++ vs)
+writes_more a b c ws vs p q =
+    record {
+      same_slice = q.same_slice ∙ p.same_slice;
+      room = q.room ∙ p.room;
+      inside = q.inside;
+      wrote = wrote-more _ _ _ _ _ _ ws vs (omega arith) p.wrote q.wrote;
+    }
+
+pub writes_both : (a b c : Pen) (ws vs us : List ℕ) → Writes a b ws → Writes b c vs → ws ++ vs ≡ us → Writes a c us
+writes_both a b c ws vs us p q e = rw (sym e) (writes_more a b c ws vs p q)
+
+-- One more piece behind those of the elements before it.
+pub writes_next : (f : ℕ → List ℕ) (a b c : Pen) (xs : List ℕ) (i : ℕ) → i < length xs
+    → Writes a b (flat_map f (take i xs)) → Writes b c (f (get_or xs i 0)) → Writes a c (flat_map f (take (i + 1) xs))
+writes_next f a b c xs i l p q = writes_both a b c _ _ _ p q (rw (take_more xs i 0 l) (flat_map_more f [] (take i xs) (get_or xs i 0)))

@@ -1,20 +1,19 @@
 -- A field in bytes: groups and lanes (two each), steps granted (eight), how many cells (four), and each cell (four).
-use Rattle.std.specs.Prelude.{◌≡◌, ℕ, ◌+◌, ◌*◌, ◌<◌, ◌≤◌, Bool, true, false, cond, ◌&&◌, ◌||◌, List, [], ◌∷◌, ◌++◌, map, length, Ok, Err, Result, ◌==◌, nat_le, nat_lt, slice_index}
-use Rattle.std.specs.List.{range_with_len}
-use Rattle.formats.specs.Bytes.{two, four, eight, two_bytes, four_bytes, eight_bytes}
+use Rattle.std.specs.Prelude.{◌≡◌, ℕ, ◌+◌, ◌*◌, ◌<◌, ◌≤◌, Bool, true, false, cond, ◌&&◌, ◌||◌, List, ◌++◌, map, length, Ok, Err, Result, ◌==◌, nat_le, nat_lt, slice_index}
+use Rattle.std.specs.List.{range_with_len, flat_map}
+use Rattle.formats.specs.Bytes.{number_at, low_bytes}
 use Rattle.formats.specs.declared.refusal.Refusal.{Refusal}
 use Rattle.formats.specs.declared.refusal.Refusal.TheVariants.{Field}
 use Rattle.formats.specs.declared.field.Header.{Header}
 
 -- The bytes of the cells, one after the other.
 unfoldable pub cells_bytes : List ℕ → List ℕ
-cells_bytes [] = []
-cells_bytes (c ∷ cs) = four_bytes c ++ cells_bytes cs
+cells_bytes cells = flat_map (low_bytes 4) cells
 
 -- The bytes of a field.
 unfoldable pub field_bytes : ℕ → ℕ → ℕ → List ℕ → List ℕ
 field_bytes groups lanes steps cells =
-    two_bytes groups ++ (two_bytes lanes ++ (eight_bytes steps ++ (four_bytes (length cells) ++ cells_bytes cells)))
+    low_bytes 2 groups ++ (low_bytes 2 lanes ++ (low_bytes 8 steps ++ (low_bytes 4 (length cells) ++ cells_bytes cells)))
 
 -- 1 to 1,024 groups and lanes, up to 2^40 steps, up to 2^24 cells.
 pub record InRange (groups lanes steps cells : ℕ) : Type 0 where
@@ -24,6 +23,10 @@ pub record InRange (groups lanes steps cells : ℕ) : Type 0 where
   pub lanes_few : lanes ≤ 1024
   pub steps_few : steps ≤ 1099511627776
   pub cells_few : cells ≤ 16777216
+
+-- One number of k bytes at a place: refused are bytes that end before it does, at their length, and a number out of range, at its first byte.
+abbrev pub in_range_at : (size at k n low high : ℕ) → Result ℕ Refusal
+in_range_at size at k n low high = cond (nat_lt size (at + k)) (Err (Field size)) (cond (nat_lt n low || nat_lt high n) (Err (Field at)) (Ok n))
 
 -- What is read of `size` bytes with these numbers in front: the numbers, or the first byte in fault. A number is looked at once all its
 -- bytes are there. Refused is a number out of range, at its first byte; bytes that are cut short, at their length; bytes that go on, at the
@@ -44,11 +47,11 @@ read_with size groups lanes steps cells =
 
 -- What is read of a field's bytes.
 unfoldable pub read_as : List ℕ → Result Header Refusal
-read_as bs = read_with (length bs) (two bs 0) (two bs 2) (eight bs 4) (four bs 12)
+read_as bs = read_with (length bs) (number_at 2 bs 0) (number_at 2 bs 2) (number_at 8 bs 4) (number_at 4 bs 12)
 
 -- The cell k that stands in a field's bytes, and the first n cells.
 unfoldable pub cell_at : List ℕ → ℕ → ℕ
-cell_at bs k = four bs (16 + 4 * k)
+cell_at bs k = number_at 4 bs (16 + 4 * k)
 
 unfoldable pub cells_read : List ℕ → ℕ → List ℕ
 cells_read bs n = map (cell_at bs) (range_with_len 0 n)

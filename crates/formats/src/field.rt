@@ -1,7 +1,7 @@
 // A field's bytes.
-ghost use Rattle.std.specs.Prelude.{◌≡◌, ◌+◌, ◌*◌, ◌<◌, ◌≤◌, length, IfOk};
-ghost use Rattle.formats.specs.Bytes.{two as at-two, four as at-four, eight as at-eight};
-ghost use Rattle.formats.specs.Field.{read_with, read_as, cells_read, IsField, ReadsBack, FirstFault};
+ghost use Rattle.std.specs.Prelude.{◌≡◌, ◌+◌, ◌*◌, ◌^◌, ◌<◌, ◌≤◌, length, IfOk};
+ghost use Rattle.formats.specs.Bytes.{number_at};
+ghost use Rattle.formats.specs.Field.{read_with, read_as, in_range_at, cells_read, IsField, ReadsBack, FirstFault};
 
 use crate::refusal::Refusal;
 
@@ -14,74 +14,51 @@ pub struct Header {
     pub cells: usize,
 }
 
-fn two(bytes: &[u8], at: usize) -> usize
-    requires { at + 2 ≤ length bytes.now }
-    ensures value { result ≡ at-two bytes.now at }
-    ensures bound { result < 65536 }
+// The number that N bytes mean, low byte first.
+fn number<const N: usize>(bytes: &[u8], at: usize) -> u64
+    requires few { N ≤ 8 }
+    requires room { at + N ≤ length bytes.now }
+    ensures value { result ≡ number_at N bytes.now at }
+    ensures bound { result < 256 ^ N }
 {
-    bytes[at] as usize + 256 * bytes[at + 1] as usize
+    let mut low = [0; 8];
+    low[..N].copy_from_slice(&bytes[at..at + N]);
+    u64::from_le_bytes(low)
 }
 
-fn four(bytes: &[u8], at: usize) -> usize
-    requires { at + 4 ≤ length bytes.now }
-    ensures value { result ≡ at-four bytes.now at }
-    ensures bound { result < 4294967296 }
+// A number that is all there and in range; else the byte in fault.
+fn number_in<const N: usize>(bytes: &[u8], at: usize, low: u64, high: u64) -> Result<u64, Refusal>
+    requires few { N ≤ 8 }
+    requires front { at < 16 }
+    ensures { result ≡ in_range_at (length bytes.now) at N (number_at N bytes.now at) low high }
 {
-    two(bytes, at) + 65536 * two(bytes, at + 2)
-}
-
-fn eight(bytes: &[u8], at: usize) -> u64
-    requires { at + 8 ≤ length bytes.now }
-    ensures { result ≡ at-eight bytes.now at }
-{
-    four(bytes, at) as u64 + 4294967296 * four(bytes, at + 4) as u64
+    if bytes.len() < at + N {
+        return Err(Refusal::Field(bytes.len()));
+    }
+    let n = number::<N>(bytes, at);
+    if n < low || high < n {
+        return Err(Refusal::Field(at));
+    }
+    Ok(n)
 }
 
 // The numbers in front of the cells, or the first byte in fault.
 fn read_front(bytes: &[u8]) -> Result<Header, Refusal>
-    ensures { result ≡ read_with (length bytes.now) (at-two bytes.now 0) (at-two bytes.now 2) (at-eight bytes.now 4) (at-four bytes.now 12) }
+    ensures { result ≡ read_with (length bytes.now) (number_at 2 bytes.now 0) (number_at 2 bytes.now 2) (number_at 8 bytes.now 4) (number_at 4 bytes.now 12) }
 {
-    let end = bytes.len();
-    if end < 2 {
-        return Err(Refusal::Field(end));
-    }
-    let groups = two(bytes, 0);
-    if groups < 1 || 1024 < groups {
-        return Err(Refusal::Field(0));
-    }
-    if end < 4 {
-        return Err(Refusal::Field(end));
-    }
-    let lanes = two(bytes, 2);
-    if lanes < 1 || 1024 < lanes {
-        return Err(Refusal::Field(2));
-    }
-    if end < 12 {
-        return Err(Refusal::Field(end));
-    }
-    let steps = eight(bytes, 4);
-    if 1 << 40 < steps {
-        return Err(Refusal::Field(4));
-    }
-    if end < 16 {
-        return Err(Refusal::Field(end));
-    }
-    let cells = four(bytes, 12);
-    if 1 << 24 < cells {
-        return Err(Refusal::Field(12));
-    }
-    let wanted = 16 + 4 * cells;
-    if end < wanted {
-        return Err(Refusal::Field(end));
-    }
-    if wanted < end {
-        return Err(Refusal::Field(wanted));
+    let groups = number_in::<2>(bytes, 0, 1, 1024)?;
+    let lanes = number_in::<2>(bytes, 2, 1, 1024)?;
+    let steps = number_in::<8>(bytes, 4, 0, 1 << 40)?;
+    let cells = number_in::<4>(bytes, 12, 0, 1 << 24)?;
+    let wanted = 16 + 4 * cells as usize;
+    if bytes.len() != wanted {
+        return Err(Refusal::Field(bytes.len().min(wanted)));
     }
     Ok(Header {
-        groups,
-        lanes,
+        groups: groups as usize,
+        lanes: lanes as usize,
         steps,
-        cells,
+        cells: cells as usize,
     })
 }
 
@@ -98,8 +75,8 @@ pub fn copy_cells(bytes: &[u8], out: &mut [u32])
     requires { 16 + 4 * length out.old ≤ length bytes.now }
     ensures { out.new ≡ cells_read bytes.now (length out.old) }
 {
-    for i in 0..out.len() {
-        out[i] = four(bytes, 16 + 4 * i) as u32;
+    for (i, cell) in out.iter_mut().enumerate() {
+        *cell = number::<4>(bytes, 16 + 4 * i) as u32;
     }
 }
 

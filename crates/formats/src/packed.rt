@@ -1,55 +1,39 @@
 // Writing a field's bytes.
 ghost use Rattle.std.specs.Prelude.{◌≡◌, ◌+◌, ◌*◌, ◌<◌, ◌≤◌, length, MatchOption};
-ghost use Rattle.formats.specs.Bytes.{two_bytes, four_bytes, eight_bytes};
+ghost use Rattle.formats.specs.Bytes.{low_bytes};
 ghost use Rattle.formats.specs.Field.{cells_bytes, field_bytes};
-ghost use Rattle.formats.specs.Wrote.{Wrote};
+ghost use Rattle.formats.specs.Wrote.{Wrote, Writes};
 
-use crate::pen::put;
+use crate::pen::Pen;
 
-fn put_two(out: &mut [u8], at: usize, n: u64) -> usize
-    requires { at + 2 ≤ length out.old }
-    ensures { Wrote out.old out.new at result (two_bytes n) }
+// The N low bytes of a number.
+fn put_low<const N: usize>(pen: &mut Pen, n: u64)
+    requires few { N ≤ 8 }
+    requires room { pen.old.at + N ≤ length pen.old.out.now }
+    ensures wrote { Writes pen.old pen.new (low_bytes N n) }
+    ensures size { pen.new.at ≡ pen.old.at + N }
 {
-    let end = put(out, at, (n % 256) as u8);
-    put(out, end, (n / 256 % 256) as u8)
+    pen.put_all(&n.to_le_bytes()[..N]);
 }
 
-fn put_four(out: &mut [u8], at: usize, n: u64) -> usize
-    requires { at + 4 ≤ length out.old }
-    ensures { Wrote out.old out.new at result (four_bytes n) }
+fn put_cells(pen: &mut Pen, cells: &[u32])
+    requires { pen.old.at + 4 * length cells.now ≤ length pen.old.out.now }
+    ensures { Writes pen.old pen.new (cells_bytes cells.now) }
 {
-    let end = put_two(out, at, n % 65536);
-    put_two(out, end, n / 65536)
-}
-
-fn put_eight(out: &mut [u8], at: usize, n: u64) -> usize
-    requires { at + 8 ≤ length out.old }
-    ensures { Wrote out.old out.new at result (eight_bytes n) }
-{
-    let end = put_four(out, at, n % 4294967296);
-    put_four(out, end, n / 4294967296)
-}
-
-fn put_words(out: &mut [u8], at: usize, cells: &[u32]) -> usize
-    requires { at + 4 * length cells.now ≤ length out.old }
-    ensures { Wrote out.old out.new at result (cells_bytes cells.now) }
-{
-    let mut end = at;
-    for i in 0..cells.len() {
-        end = put_four(out, end, cells[i] as u64);
+    for cell in cells {
+        put_low::<4>(pen, u64::from(*cell));
     }
-    end
 }
 
-fn put_field_bytes(out: &mut [u8], groups: usize, lanes: usize, steps: u64, cells: &[u32]) -> usize
-    requires { 16 + 4 * length cells.now ≤ length out.old }
-    ensures { Wrote out.old out.new 0 result (field_bytes groups lanes steps cells.now) }
+fn put_field(pen: &mut Pen, groups: usize, lanes: usize, steps: u64, cells: &[u32])
+    requires { pen.old.at + 16 + 4 * length cells.now ≤ length pen.old.out.now }
+    ensures { Writes pen.old pen.new (field_bytes groups lanes steps cells.now) }
 {
-    let groups_end = put_two(out, 0, groups as u64);
-    let lanes_end = put_two(out, groups_end, lanes as u64);
-    let steps_end = put_eight(out, lanes_end, steps);
-    let count_end = put_four(out, steps_end, cells.len() as u64);
-    put_words(out, count_end, cells)
+    put_low::<2>(pen, groups as u64);
+    put_low::<2>(pen, lanes as u64);
+    put_low::<8>(pen, steps);
+    put_low::<4>(pen, cells.len() as u64);
+    put_cells(pen, cells);
 }
 
 // Writes a field's bytes, and answers how many. None: the slice is too short for them, and nothing is written.
@@ -65,5 +49,7 @@ pub fn write_field(
     if out.len() < 16 || (out.len() - 16) / 4 < cells.len() {
         return None;
     }
-    Some(put_field_bytes(out, groups, lanes, steps, cells))
+    let mut pen = Pen { out, at: 0 };
+    put_field(&mut pen, groups, lanes, steps, cells);
+    Some(pen.at)
 }

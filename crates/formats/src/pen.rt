@@ -1,48 +1,14 @@
-// Writing bytes, texts and numbers into a lent slice from a place on. Each answers the place behind what it wrote.
+// A pen: it writes bytes, texts and numbers into a lent slice, one behind the other.
 ghost use Rattle.std.specs.Prelude.{◌≡◌, ◌+◌, ◌<◌, ◌≤◌, [], ◌∷◌, ◌++◌, length, decimal};
-ghost use Rattle.formats.specs.Wrote.{Wrote};
-ghost use Rattle.formats.specs.Hex.{hex_digit, hex_two, hex_four, hex_eight};
+ghost use Rattle.formats.specs.Wrote.{Writes};
+ghost use Rattle.formats.specs.Hex.{hex_digit, hex_eight};
 
-pub fn put(out: &mut [u8], at: usize, byte: u8) -> usize
-    requires { at < length out.old }
-    ensures { Wrote out.old out.new at result (byte ∷ []) }
-{
-    out[at] = byte;
-    at + 1
-}
-
-pub fn put_all(out: &mut [u8], at: usize, text: &[u8]) -> usize
-    requires { at + length text.now ≤ length out.old }
-    ensures { Wrote out.old out.new at result text.now }
-{
-    let mut end = at;
-    for byte in text {
-        end = put(out, end, *byte);
-    }
-    end
-}
-
-// A number of 64 bits has 20 digits at most.
-pub fn put_decimal(out: &mut [u8], at: usize, n: u64) -> usize
-    requires { at + 20 ≤ length out.old }
-    ensures wrote { Wrote out.old out.new at result (decimal n) }
-    ensures few { result ≤ at + 20 }
-{
-    if n < 10 {
-        return put(out, at, 48 + n as u8);
-    }
-    let end = put_decimal(out, at, n / 10);
-    put(out, end, 48 + (n % 10) as u8)
-}
-
-// A text, then a number.
-pub fn put_number(out: &mut [u8], at: usize, text: &[u8], n: u64) -> usize
-    requires { at + length text.now + 20 ≤ length out.old }
-    ensures wrote { Wrote out.old out.new at result (text.now ++ decimal n) }
-    ensures few { result ≤ at + length text.now + 20 }
-{
-    let end = put_all(out, at, text);
-    put_decimal(out, end, n)
+// The lent slice, and the place that the next byte goes to.
+// No heap, and each byte is promised: std's `write!` says what it wrote only where it succeeds, and not that it does.
+#[derive(Drop)]
+pub struct Pen<'a> {
+    pub out: &'a mut [u8],
+    pub at: usize,
 }
 
 fn digit(d: u8) -> u8
@@ -52,28 +18,57 @@ fn digit(d: u8) -> u8
     if d < 10 { 48 + d } else { 87 + d }
 }
 
-fn put_hex_two(out: &mut [u8], at: usize, n: u32) -> usize
-    requires { (at + 2 ≤ length out.old) × (n < 256) }
-    ensures { Wrote out.old out.new at result (hex_two n) }
-{
-    let end = put(out, at, digit((n / 16) as u8));
-    put(out, end, digit((n % 16) as u8))
-}
+impl Pen<'_> {
+    pub fn put(&mut self, byte: u8)
+        requires { self.old.at < length self.old.out.now }
+        ensures { Writes self.old self.new (byte ∷ []) }
+    {
+        self.out[self.at] = byte;
+        self.at += 1;
+    }
 
-fn put_hex_four(out: &mut [u8], at: usize, n: u32) -> usize
-    requires { (at + 4 ≤ length out.old) × (n < 65536) }
-    ensures { Wrote out.old out.new at result (hex_four n) }
-{
-    let end = put_hex_two(out, at, n / 256);
-    put_hex_two(out, end, n % 256)
-}
+    pub fn put_all(&mut self, text: &[u8])
+        requires { self.old.at + length text.now ≤ length self.old.out.now }
+        ensures { Writes self.old self.new text.now }
+    {
+        let end = self.at + text.len();
+        self.out[self.at..end].copy_from_slice(text);
+        self.at = end;
+    }
 
-// Eight digits in hexadecimal.
-pub fn put_hex(out: &mut [u8], at: usize, n: u32) -> usize
-    requires { at + 8 ≤ length out.old }
-    ensures wrote { Wrote out.old out.new at result (hex_eight n) }
-    ensures size { result ≡ at + 8 }
-{
-    let end = put_hex_four(out, at, n / 65536);
-    put_hex_four(out, end, n % 65536)
+    // A number of 64 bits has 20 digits at most.
+    pub fn put_decimal(&mut self, n: u64)
+        requires { self.old.at + 20 ≤ length self.old.out.now }
+        ensures wrote { Writes self.old self.new (decimal n) }
+        ensures few { self.new.at ≤ self.old.at + 20 }
+    {
+        if n < 10 {
+            self.put(48 + n as u8);
+        } else {
+            self.put_decimal(n / 10);
+            self.put(48 + (n % 10) as u8);
+        }
+    }
+
+    // A text, then a number.
+    pub fn put_number(&mut self, text: &[u8], n: u64)
+        requires { self.old.at + length text.now + 20 ≤ length self.old.out.now }
+        ensures wrote { Writes self.old self.new (text.now ++ decimal n) }
+        ensures few { self.new.at ≤ self.old.at + length text.now + 20 }
+    {
+        self.put_all(text);
+        self.put_decimal(n);
+    }
+
+    // Eight digits in hexadecimal.
+    pub fn put_hex(&mut self, n: u32)
+        requires { self.old.at + 8 ≤ length self.old.out.now }
+        ensures wrote { Writes self.old self.new (hex_eight n) }
+        ensures size { self.new.at ≡ self.old.at + 8 }
+    {
+        for byte in n.to_be_bytes() {
+            self.put(digit(byte / 16));
+            self.put(digit(byte % 16));
+        }
+    }
 }

@@ -36,10 +36,6 @@ pub fn place_of(refusal: Refusal) -> usize
 {
     match refusal {
         Refusal::Field(at) => at,
-        Refusal::Short(Lent::Steps) => 0,
-        Refusal::Short(Lent::Lanes) => 1,
-        Refusal::Short(Lent::Cells) => 2,
-        Refusal::Short(Lent::Touches) => 3,
-        Refusal::Short(Lent::Printed) => 4,
+        Refusal::Short(slice) => slice as usize,
     }
 }

@@ -3,14 +3,14 @@ ghost use Rattle.std.specs.Prelude.{◌≡◌};
 ghost use Rattle.formats.specs.Meaning.{in_order};
 
 // Where a touched cell lies: in the field, or among the cells that a group has in common.
-#[derive(Clone, Copy)]
+#[derive(Clone, Copy, PartialEq, Eq, Debug)]
 pub enum Place {
     Field,
     Cell,
 }
 
 // One touch of a cell: whose, in which phase of its group, and whether it wrote.
-#[derive(Clone, Copy)]
+#[derive(Clone, Copy, PartialEq, Eq, Debug)]
 pub struct Touch {
     pub group: usize,
     pub lane: usize,
@@ -19,7 +19,7 @@ pub struct Touch {
 }
 
 // The cells of a told field lie in lent memory.
-#[derive(Clone, Copy)]
+#[derive(Clone, Copy, PartialEq, Eq, Debug)]
 pub enum Told {
     Field,
     Race {
@@ -42,18 +42,15 @@ pub enum Told {
 pub fn race_of(place: Place, cell: usize, a: Touch, b: Touch) -> Told
     ensures { result ≡ in_order place cell a b }
 {
-    if b.group < a.group || (b.group == a.group && b.lane < a.lane) {
-        return Told::Race {
-            place,
-            cell,
-            first: b,
-            second: a,
-        };
-    }
+    let (first, second) = if (b.group, b.lane) < (a.group, a.lane) {
+        (b, a)
+    } else {
+        (a, b)
+    };
     Told::Race {
         place,
         cell,
-        first: a,
-        second: b,
+        first,
+        second,
     }
 }

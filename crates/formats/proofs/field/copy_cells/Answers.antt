@@ -6,7 +6,7 @@ use Rattle.formats.proofs.field.copy_cells.Goals as goal
 
 pub loop-i-preserved : goal.loop-i-preserved
 unfolding cell_at
-loop-i-preserved c = rw c.four.ensures.value (fill_by_more (cell_at c.args.bytes.now) c.loop-i.out c.loop-i.i 0 (omega arith) c.loop-i.invariant)
+loop-i-preserved c = rw c.number.ensures.value (fill_by_more (cell_at c.args.bytes.now) c.loop-i.out c.loop-i.i 0 (omega arith) c.loop-i.invariant)
 
 pub returns : goal.returns
 unfolding cells_read

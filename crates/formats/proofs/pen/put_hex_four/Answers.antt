@@ -1,6 +1,0 @@
-use Rattle.formats.proofs.Pieces.{wrote-more}
-use Rattle.std.proofs.Common.{arith}
-use Rattle.formats.proofs.pen.put_hex_four.Goals as goal
-
-pub returns : goal.returns
-returns c = wrote-more _ _ _ _ _ _ _ _ (omega arith) c.put_hex_two-end.ensures c.put_hex_two.ensures

@@ -1,0 +1,5 @@
+use Rattle.formats.proofs.Pieces.{writes_more}
+use Rattle.formats.proofs.print.put_told.Goals as goal
+
+pub returns-in-Field : goal.returns-in-Field
+returns-in-Field c = rw c.in-Field.is (writes_more _ _ _ _ _ c.put_all.ensures c.put_cells.ensures)

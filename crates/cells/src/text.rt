@@ -1,11 +1,11 @@
 // Cells from a whole text.
-ghost use Rattle.std.specs.Prelude.{◌≡◌, ℕ, suc, ◌+◌, ◌*◌, ◌<◌, ◌≤◌, min, true, false, length, take, drop, count_by, slice_index};
-ghost use Rattle.cells.specs.Scan.{begins_field_spec, cells_from, cells_in, between_words};
+ghost use Rattle.std.specs.Prelude.{◌≡◌, ℕ, suc, ◌+◌, ◌*◌, ◌<◌, ◌≤◌, min, length, take, drop, count_by, slice_index};
+ghost use Rattle.cells.specs.Scan.{cells_from, cells_in, between_words};
 ghost use Rattle.cells.specs.Back.{PrintedBack};
-ghost use Rattle.cells.specs.Post.{Reads, ReadsText, is_end};
+ghost use Rattle.cells.specs.Post.{ReadsText, is_end};
 ghost use Rattle.cells.specs.Word.{IsWord};
 
-use crate::scan::{Next, Part, Unread, step};
+use crate::scan::{Base, Next, Part, Unread, step};
 use std::alloc::Global;
 
 const BETWEEN: Part = Part {
@@ -13,71 +13,38 @@ const BETWEEN: Part = Part {
     digits: 0,
 };
 
-fn begins_field(text: &[u8]) -> bool
-    ensures { result ≡ begins_field_spec text.now }
+// The cells from a byte on, or why not.
+fn read_from(heap: Global, text: &[u8], from: usize, base: Base) -> Result<Vec<u32>, Unread>
+    requires { from ≤ length text.now }
+    ensures { ReadsText (cells_from base between_words from (drop from text.now)) result }
 {
-    if text.len() < 5 || text[0] != b'f' || text[1] != b'i' {
-        return false;
-    }
-    if text[2] != b'e' || text[3] != b'l' || text[4] != b'd' {
-        return false;
-    }
-    true
-}
-
-// The cells from a byte on, into a lent slice: how many, or the first byte that can't stand there.
-fn read_from(text: &[u8], from: usize, hex: bool, cells: &mut [u32]) -> Result<usize, usize>
-    requires room { length text.now + 1 ≤ 2 * length cells.old }
-    requires inside { from ≤ length text.now }
-    ensures { Reads (cells_from hex between_words from (drop from text.now)) cells.old cells.new result }
-{
+    let mut cells = Vec::new(heap);
     let mut part = BETWEEN;
-    let mut count = 0;
-    for i in from..text.len() {
-        match step(hex, part, text[i]) {
+    let rest = &text[from..];
+    for (k, byte) in rest.iter().enumerate() {
+        match step(base, part, *byte).ok_or(Unread::Bad(from + k))? {
             Next::On(next) => part = next,
             Next::Whole(cell) => {
-                cells[count] = cell;
-                count += 1;
+                cells.push(cell)?;
                 part = BETWEEN;
             }
-            Next::Bad => return Err(i),
         }
     }
-    match step(hex, part, 10) {
-        Next::On(_) => Ok(count),
-        Next::Whole(cell) => {
-            cells[count] = cell;
-            Ok(count + 1)
-        }
-        Next::Bad => Err(text.len()),
+    // the end of the text is as good as white space
+    if let Next::Whole(cell) = step(base, part, b'\n').ok_or(Unread::Bad(text.len()))? {
+        cells.push(cell)?;
     }
+    Ok(cells)
 }
 
-fn read_text(text: &[u8], cells: &mut [u32]) -> Result<usize, usize>
-    requires { length text.now + 1 ≤ 2 * length cells.old }
-    ensures { Reads (cells_in text.now) cells.old cells.new result }
-{
-    if begins_field(text) {
-        read_from(text, 5, true, cells)
-    } else {
-        read_from(text, 0, false, cells)
-    }
-}
-
-// The cells in a text, or why not. Each has a byte at least, and a byte that is none stands between two.
+// The cells in a text, or why not.
 pub fn read_cells(heap: Global, text: &[u8]) -> Result<Vec<u32>, Unread>
     ensures { ReadsText (cells_in text.now) result }
 {
-    let Ok(mut cells) = vec![in heap; 0u32; text.len() / 2 + 1] else {
-        return Err(Unread::NoMemory);
-    };
-    match read_text(text, cells.as_mut_slice()) {
-        Ok(count) => {
-            cells.truncate(count);
-            Ok(cells)
-        }
-        Err(at) => Err(Unread::Bad(at)),
+    if text.starts_with(b"field") {
+        read_from(heap, text, 5, Base::Hex)
+    } else {
+        read_from(heap, text, 0, Base::Decimal)
     }
 }
 
@@ -85,48 +52,31 @@ pub fn read_cells(heap: Global, text: &[u8]) -> Result<Vec<u32>, Unread>
 pub fn lines_before(text: &[u8], at: usize) -> usize
     ensures { result ≡ count_by is_end (take (min at (length text.now)) text.now) }
 {
-    let mut lines = 0;
-    for i in 0..at.min(text.len()) {
-        if text[i] == 10 {
-            lines += 1;
-        }
-    }
-    lines
+    let before = &text[..at.min(text.len())];
+    before.iter().filter(|byte| **byte == b'\n').count()
 }
 
-// Where the word that goes on or ends at a byte begins.
-fn word_begin(text: &[u8], at: usize) -> usize
-    requires { at ≤ length text.now }
-    ensures low { result ≤ at }
-    ensures word { (k : ℕ) → result ≤ k → k < at → 32 < slice_index text.now k }
+// Where the last word of a text begins; its end, if white space stands there.
+fn last_word(text: &[u8]) -> usize
+    ensures within { result ≤ length text.now }
+    ensures word { (k : ℕ) → result ≤ k → k < length text.now → 32 < slice_index text.now k }
     ensures begins { (k : ℕ) → result ≡ suc k → slice_index text.now k ≤ 32 }
 {
-    let mut from = at;
-    while from > 0 {
-        if text[from - 1] <= 32 {
-            break;
-        }
-        from -= 1;
+    match text.iter().rposition(|byte| *byte <= b' ') {
+        Some(at) => at + 1,
+        None => 0,
     }
-    from
 }
 
-// Where the word that goes on at a byte ends.
-fn word_end(text: &[u8], at: usize) -> usize
-    requires { at ≤ length text.now }
-    ensures low { at ≤ result }
-    ensures high { result ≤ length text.now }
-    ensures word { (k : ℕ) → at ≤ k → k < result → 32 < slice_index text.now k }
+// Where the first word of a text ends; 0, if white space stands there.
+fn first_word(text: &[u8]) -> usize
+    ensures within { result ≤ length text.now }
+    ensures word { (k : ℕ) → k < result → 32 < slice_index text.now k }
     ensures ends { result < length text.now → slice_index text.now result ≤ 32 }
 {
-    let mut to = at;
-    while to < text.len() {
-        if text[to] <= 32 {
-            break;
-        }
-        to += 1;
-    }
-    to
+    text.iter()
+        .position(|byte| *byte <= b' ')
+        .unwrap_or(text.len())
 }
 
 // The word that a byte stands in, or that ends there, for a message.
@@ -134,9 +84,9 @@ pub fn word_at(text: &[u8], at: usize) -> &[u8]
     ensures short { length result.now ≤ length text.now }
     ensures word { IsWord text.now at result.now }
 {
-    let at = at.min(text.len());
-    let from = word_begin(text, at);
-    let to = word_end(text, at);
+    let (before, behind) = text.split_at(at.min(text.len()));
+    let from = last_word(before);
+    let to = before.len() + first_word(behind);
     &text[from..to]
 }
 

@@ -1,13 +1,9 @@
-use Rattle.std.proofs.Common.{◌≡◌, ℕ, ◌≤◌, List, ◌++◌, length, take, Ok, sym, ap, ◌∙◌, arith}
-use Rattle.std.proofs.lemmas.List.{take-take, take-append-le}
+use Rattle.std.proofs.Common.{sym, ◌∙◌}
+use Rattle.cells.proofs.Ahead.{in-hex, in-decimal}
 use Rattle.cells.proofs.text.read_cells.Goals as goal
 
-cut : (n len : ℕ) (ws rest : List ℕ) → n ≤ length ws → n ≤ len → take n (take len (ws ++ rest)) ≡ take n ws
-cut n len ws rest h k = take-take n len (ws ++ rest) k ∙ take-append-le n ws rest h
+pub returns-then-starts_with : goal.returns-then-starts_with
+returns-then-starts_with c = rw (in-hex c.args.text.now (sym c.starts_with.ensures.value ∙ c.if-starts_with.true)) c.read_from.ensures
 
-pub returns-in-Ok-read_text : goal.returns-in-Ok-read_text
-returns-in-Ok-read_text c =
-    let e = c.in-Ok-read_text.ensures in
-    let t = c.truncate.ensures.items in
-    let l : c.in-Ok-read_text.count ≤ c.in-Ok.cells.len = omega (arith, e.0, c.as_mut_slice.ensures.len) in
-    e.1 ∙ ap (λ (xs : List ℕ). Ok xs) (sym (t ∙ cut _ _ _ _ e.0 l))
+pub returns-else-starts_with : goal.returns-else-starts_with
+returns-else-starts_with c = rw (in-decimal c.args.text.now (sym c.starts_with.ensures.value ∙ c.if-starts_with.false)) c.read_from-else-starts_with.ensures

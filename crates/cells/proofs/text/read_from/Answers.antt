@@ -1,33 +1,46 @@
-use Rattle.std.proofs.Common.{get_or, arith}
-use Rattle.cells.proofs.Ahead.{whole-some, stands_on, stands-whole, stands-bad, ends_on, ends-whole, ends-bad}
+use Rattle.std.proofs.Common.{◌≡◌, ◌-◌, length, take, drop, sym, ap, ◌∙◌, arith}
+use Rattle.std.proofs.lemmas.Result.{err_from_is_err_and}
+use Rattle.std.proofs.lemmas.List.{take_rest, length-drop}
+use Rattle.cells.proofs.Ahead.{stands_none, stands_on, stands-whole, stands-bad, ends_on, ends-whole, ends-bad, some_of, none_of}
 use Rattle.cells.proofs.text.read_from.Goals as goal
+use Rattle.cells.proofs.text.read_from.Goals.{in-On, in-Whole+in_ok-push-in-Whole, in-Whole-2+in_ok-push, in_default}
 
-pub returns-in-Bad : goal.returns-in-Bad
-returns-in-Bad c = stands-bad _ _ _ _ _ _ _ _ c.loop-i.invariant (omega arith) c.in-Bad.ensures
+pub loop-k-init : goal.loop-k-init
+loop-k-init c = stands_none _ _ _ _ c.new-cells.ensures.items
 
-pub loop-i-preserved : goal.loop-i-preserved
-loop-i-preserved c =
-    elim c.match-step.branch [
-      | goal.in-On w ↦
-          simp (w.part-is, w.count-is, w.cells-is)
-          (stands_on c.args.hex c.args.text.now c.args.cells.now c.loop-i.cells c.args.from c.loop-i.count c.loop-i.i c.loop-i.part _
-          c.loop-i.invariant (omega arith) w.in-On.ensures)
-      | goal.in-Whole w ↦
-          simp (w.part-is, w.count-is, w.cells-is)
-          (stands-whole c.args.hex c.args.text.now c.args.cells.now c.loop-i.cells c.args.from c.loop-i.count c.loop-i.i c.loop-i.part _
-          c.loop-i.invariant (omega arith)
-          (omega (arith, whole-some c.args.hex c.loop-i.part (get_or c.args.text.now c.loop-i.i 0) _ w.in-Whole.ensures, c.loop-i.invariant.3)) w.in-Whole.ensures)
+pub returns-in_err-next : goal.returns-in_err-next
+returns-in_err-next c =
+    let p = err_from_is_err_and c.from_residual.result c.from_residual.ensures.1 in
+    let n = none_of c.step.result _ _ (sym c.in_err-next.was ∙ c.ok_or.ensures.value) in
+    rw (p.1, p.2, n.1)
+    (rw take_rest at (stands-bad _ _ _ c.loop-k.k c.loop-k.part _ c.loop-k.invariant c.loop-k-test.true (n.0 ∙ c.step.ensures)))
+
+pub loop-k-preserved : goal.loop-k-preserved
+loop-k-preserved c =
+    let is = some_of c.step.result _ _ (sym c.in_ok-next.was ∙ c.ok_or.ensures.value) ∙ c.step.ensures in
+    elim c.match-branch-2.branch [
+      | in-On w ↦ simp (w.part-is, w.cells-is) (stands_on _ _ _ c.loop-k.k c.loop-k.part _ _ c.loop-k.invariant c.loop-k-test.true (rw w.in-On.is at is))
+      | in-Whole+in_ok-push-in-Whole w ↦
+          simp (w.part-is, w.cells-is, w.in_ok-push-in-Whole.ensures.items)
+          (stands-whole _ _ _ c.loop-k.k c.loop-k.part _ _ c.loop-k.invariant c.loop-k-test.true (rw w.in-Whole.is at is))
     ]
 
-pub returns-in-On-step : goal.returns-in-On-step
-returns-in-On-step c =
-    ends_on _ _ _ _ _ _ _ c.loop-i.part _ c.loop-i.invariant c.loop-i-test.false (omega (arith, c.loop-i.invariant.3)) c.in-On-step.ensures
+pub returns-in_err-cell : goal.returns-in_err-cell
+returns-in_err-cell c =
+    let p = err_from_is_err_and c.from_residual-in_err-cell.result c.from_residual-in_err-cell.ensures.1 in
+    let n = none_of c.step-2.result _ _ (sym c.in_err-cell.was ∙ c.ok_or-2.ensures.value) in
+    let t = c.args.text.now in
+    let long : length (take (length t - c.args.from) (drop c.args.from t)) ≡ length t - c.args.from = ap length (take_rest t c.args.from) ∙ length-drop c.args.from t in
+    rw (p.1, p.2, n.1)
+    (rw take_rest at (ends-bad _ _ _ c.loop-k.k (length t) c.loop-k.part _ c.loop-k.invariant c.loop-k-test.false (omega (arith, long)) (n.0 ∙ c.step-2.ensures)))
 
-pub returns-in-Whole-step : goal.returns-in-Whole-step
-returns-in-Whole-step c =
-    ends-whole _ _ _ _ _ _ _ c.loop-i.part _ c.loop-i.invariant c.loop-i-test.false
-    (omega (arith, whole-some c.args.hex c.loop-i.part 10 _ c.in-Whole-step.ensures, c.loop-i.invariant.3)) c.in-Whole-step.ensures
-
-pub returns-in-Bad-step : goal.returns-in-Bad-step
-returns-in-Bad-step c =
-    ends-bad _ _ _ _ _ _ _ _ c.loop-i.part c.loop-i.invariant c.loop-i-test.false (omega arith) c.in-Bad-step.ensures
+pub returns : goal.returns
+returns c =
+    let is = some_of c.step-2.result _ _ (sym c.in_ok-cell.was ∙ c.ok_or-2.ensures.value) ∙ c.step-2.ensures in
+    elim c.match-branch-5.branch [
+      | in-Whole-2+in_ok-push w ↦
+          simp (w.cells-is, w.in_ok-push.ensures.items)
+          (rw take_rest at (ends-whole _ _ _ c.loop-k.k c.loop-k.part _ _ c.loop-k.invariant c.loop-k-test.false (rw w.in-Whole-2.is at is)))
+      | in_default w ↦
+          simp w.cells-is (rw take_rest at (ends_on _ _ _ c.loop-k.k c.loop-k.part _ _ c.loop-k.invariant c.loop-k-test.false (rw w.in_default.is at is)))
+    ]

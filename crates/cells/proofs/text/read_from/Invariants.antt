@@ -1,5 +1,6 @@
+use Rattle.std.proofs.Common.{vec_items}
 use Rattle.cells.proofs.Ahead.{Stands}
 use Rattle.cells.proofs.text.read_from.Given as goal
 
-abbrev pub invariant-loop-i : goal.invariant-loop-i
-invariant-loop-i l = Stands l.hex l.text l.initial.cells l.cells l.from l.count l.i l.part
+abbrev pub invariant-loop-k : goal.invariant-loop-k
+invariant-loop-k l = Stands l.base l.rest l.from l.k l.part (vec_items l.cells)

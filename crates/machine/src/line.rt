@@ -99,11 +99,13 @@ fn values_of(text: &[u8], at: u32, z: Sizes, lanes: &[u32], row: Active, out: &m
         group: row.group as u32,
         lanes: many as u32,
         first: row.start as u32,
+        width,
+        own: lanes,
         base: own_base(z, row.group, row.start),
         stride: many,
         owns,
     };
-    eval_row(text, at as usize, lanes, place, &mut out[0..width]);
+    eval_row(text, at as usize, place, &mut out[..width]);
 }
 
 // The second numbers, which only a write has.

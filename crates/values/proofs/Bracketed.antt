@@ -61,7 +61,7 @@ module _ (ns : List (List ℕ)) (text : List ℕ) (n : NamesIn ns text) (i : ℕ
     abbrev pub stands_right : Stands (Named ns) text (mid + 3) h.right
     stands_right = record { spelling = h.v; behind = 41 ∷ s.behind; spells = h.spells_right; here = sym (drop-drop 3 mid text) ∙ ap (λ t. drop 3 t) at_mid; apart = refl }
 
-module _ (text : List ℕ) (i : ℕ) (own : List ℕ) (r : Row) (out : List ℕ) (mid : ℕ) (bracket : get_or text i 0 ≡ 40) (one : Evaluated text (i + 1) own r out mid) where
+module _ (text : List ℕ) (i : ℕ) (r : Row) (out : List ℕ) (mid : ℕ) (bracket : get_or text i 0 ≡ 40) (one : Evaluated text (i + 1) r out mid) where
   module _ (ns : List (List ℕ)) (n : NamesIn ns text) (di : Distinct ns) (le : length ns ≤ r.owns) (e : Expr) (s : Stands (Named ns) text i e) where
     parts : Halves ns e s.spelling
     parts = halves ns e s.spelling s.spells (is-bracket ns text n i e s bracket)
@@ -79,7 +79,7 @@ module _ (text : List ℕ) (i : ℕ) (own : List ℕ) (r : Row) (out : List ℕ)
     op-is op q = same_op op parts.op (q ∙ op-byte ns text n i e s parts mid mid-is)
 
   -- No expression stands there.
-  pub cut_short : length text < mid + 3 → i < length text → Evaluated text i own r out mid
+  pub cut_short : length text < mid + 3 → i < length text → Evaluated text i r out mid
   cut_short h here =
       record {
         from = omega (arith, one.from);
@@ -88,7 +88,7 @@ module _ (text : List ℕ) (i : ℕ) (own : List ℕ) (r : Row) (out : List ℕ)
         each = λ ns n di le e s. absurd (omega (arith, h, fits ns n di le e s));
       }
 
-  pub no-op : ((op : Op) → byte_of op ≢ get_or text (mid + 1) 0) → i < length text → Evaluated text i own r out mid
+  pub no-op : ((op : Op) → byte_of op ≢ get_or text (mid + 1) 0) → i < length text → Evaluated text i r out mid
   no-op h here =
       let none : (ns : List (List ℕ)) (n : NamesIn ns text) (di : Distinct ns) (le : length ns ≤ r.owns) (e : Expr) (s : Stands (Named ns) text i e) → ⊥ =
       λ ns n di le e s. h (parts ns n di le e s).op (sym (op-byte ns text n i e s (parts ns n di le e s) mid (mid-is ns n di le e s))) in
@@ -99,11 +99,11 @@ module _ (text : List ℕ) (i : ℕ) (own : List ℕ) (r : Row) (out : List ℕ)
         each = λ ns n di le e s. absurd (none ns n di le e s);
       }
 
-  module _ (right : List ℕ) (end : ℕ) (op : Op) (all : List ℕ) (is : byte_of op ≡ get_or text (mid + 1) 0) (room : mid + 3 ≤ length text) (two : Evaluated text (mid + 3) own r right end) (wide : length right ≡ length out) (done : Applied op out right all) where
+  module _ (right : List ℕ) (end : ℕ) (op : Op) (all : List ℕ) (is : byte_of op ≡ get_or text (mid + 1) 0) (room : mid + 3 ≤ length text) (two : Evaluated text (mid + 3) r right end) (wide : length right ≡ length out) (done : Applied op out right all) where
     end_is : (ns : List (List ℕ)) (n : NamesIn ns text) (di : Distinct ns) (le : length ns ≤ r.owns) (e : Expr) (s : Stands (Named ns) text i e) → end ≡ (mid + 3) + length (parts ns n di le e s).v
     end_is ns n di le e s = two.stop ns n di le (parts ns n di le e s).right (stands_right ns text n i e s (parts ns n di le e s) mid (mid-is ns n di le e s))
 
-    worth : (ns : List (List ℕ)) (n : NamesIn ns text) (di : Distinct ns) (le : length ns ≤ r.owns) (e : Expr) (s : Stands (Named ns) text i e) → Values r own e all
+    worth : (ns : List (List ℕ)) (n : NamesIn ns text) (di : Distinct ns) (le : length ns ≤ r.owns) (e : Expr) (s : Stands (Named ns) text i e) → Values r e all
     unfolding Values
     worth ns n di le e s k hk v o =
         let p = parts ns n di le e s in
@@ -115,7 +115,7 @@ module _ (text : List ℕ) (i : ℕ) (own : List ℕ) (r : Row) (out : List ℕ)
         ∙ ap (λ q. op_of q (val p.left) (val p.right)) (op-is ns n di le e s op is)
         ∙ sym (value-node p.op v (r.first + k) r.group r.lanes p.left p.right) ∙ ap val (sym p.is)
 
-    pub closed : end < length text → Evaluated text i own r all (end + 1)
+    pub closed : end < length text → Evaluated text i r all (end + 1)
     closed h =
         record {
           from = omega (arith, one.from, two.from);
@@ -124,7 +124,7 @@ module _ (text : List ℕ) (i : ℕ) (own : List ℕ) (r : Row) (out : List ℕ)
           each = worth;
         }
 
-    pub unclosed : length text ≤ end → Evaluated text i own r all end
+    pub unclosed : length text ≤ end → Evaluated text i r all end
     unclosed h =
         record {
           from = omega (arith, one.from, two.from);

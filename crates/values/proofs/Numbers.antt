@@ -1,7 +1,8 @@
 -- Digits read modulo 2^32.
-use Rattle.std.proofs.Common.{◌≡◌, ℕ, ◌+◌, ◌-◌, ◌*◌, ◌/◌, ◌%◌, List, [], ◌∷◌, sym, refl, ap, ◌∙◌, arith}
-use native.Mathlib.Nat.{div-add-mod, mul-add-mod_self_left, mod-mod}
-use Rattle.lanes.specs.Step.{whole}
+use Rattle.std.proofs.Common.{◌≡◌, ℕ, ◌+◌, ◌-◌, ◌*◌, ◌/◌, ◌%◌, List, [], ◌∷◌, ◌<◌, sym, ap, ◌∙◌, mod-eq_of_lt, arith}
+use native.Mathlib.Nat.{div-add-mod, mul-add-mod_self_left}
+use Rattle.std.specs.List.{fold}
+use Rattle.lanes.specs.Step.{whole, sum_of, product_of}
 use Rattle.grammar.specs.Spelling.{decimal}
 
 -- One more digit, modulo 2^32.
@@ -19,11 +20,10 @@ unfolding decimal
 decimal-mod a b [] h = h
 decimal-mod a b (c ∷ u) h = decimal-mod (a * 10 + (c - 48)) (b * 10 + (c - 48)) u (mod-step a b (c - 48) h)
 
-pub decimal-none : (a : ℕ) → decimal a [] ≡ a
+-- Digits taken one after the other, modulo 2^32.
+pub folded : (a : ℕ) (u : List ℕ) → a < whole → fold (λ n b. sum_of (product_of n 10) (b - 48)) a u ≡ decimal a u % whole
 unfolding decimal
-decimal-none a = refl
-
--- Going on behind one digit more.
-pub decimal-more : (a c : ℕ) (u : List ℕ) → decimal ((a * 10 + (c - 48)) % whole) u % whole ≡ decimal a (c ∷ u) % whole
-unfolding decimal
-decimal-more a c u = decimal-mod ((a * 10 + (c - 48)) % whole) (a * 10 + (c - 48)) u (mod-mod (a * 10 + (c - 48)) whole)
+folded a [] h = sym (mod-eq_of_lt h)
+folded a (c ∷ u) h =
+    folded (sum_of (product_of a 10) (c - 48)) u (omega arith)
+    ∙ decimal-mod (sum_of (product_of a 10) (c - 48)) (a * 10 + (c - 48)) u (omega arith)

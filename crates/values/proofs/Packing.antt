@@ -1,5 +1,5 @@
 -- Expressions of the text put into words.
-use Rattle.std.proofs.Common.{◌≡◌, ℕ, ◌+◌, ◌<◌, ◌≤◌, ◌≢◌, ◌⊎◌, List, length, get_or, set, sym, ap, ◌∙◌, subst, inl, inr, arith}
+use Rattle.std.proofs.Common.{◌≡◌, ℕ, ◌+◌, ◌<◌, ◌≤◌, ◌≢◌, List, length, Some, get_or, set, sym, ap, ◌∙◌, subst, arith}
 use Rattle.std.specs.List.{between}
 use Rattle.std.proofs.lemmas.List.{get_or-set_same, get_or-set_other}
 use Rattle.lanes.specs.Syntax.{Expr}
@@ -19,7 +19,7 @@ use Rattle.values.proofs.Standing.{is-bracket, word-stop, word-leaf, leaf-more}
 use Rattle.values.proofs.Bracketed.{same_op, stands_left, stands_right, op-byte, long}
 use Rattle.values.proofs.Coding.{coded-leaf, coded-node, coded_kept}
 
-pub packed-word : (text : List ℕ) (i : ℕ) (ws : List ℕ) (from w j : ℕ) (leaf : Leaf) → get_or text i 0 ≢ 40 → WordEnd text i j → i ≤ length text → from < length ws → LeafAt simple text (between i j text) leaf → item_of w ≡ Word leaf →
+pub packed-word : (text : List ℕ) (i : ℕ) (ws : List ℕ) (from w j : ℕ) (leaf : Leaf) → get_or text i 0 ≢ 40 → WordEnd text i j → i ≤ length text → from < length ws → LeafAt simple text (between i j text) leaf → item_of w ≡ Some (Word leaf) →
     Packed text i (set ws from w) from record { byte = j; word = from + 1 }
 packed-word text i ws from w j leaf h we here room at q =
     record {
@@ -30,7 +30,7 @@ packed-word text i ws from w j leaf h we here room at q =
           coded-leaf owns (set ws from w) from leaf e (ap item_of (get_or-set_same ws from w 0 room) ∙ q) (leaf-more (length ns) owns leaf e le (word-leaf ns text n i e s h j we leaf di at));
     }
 
-module _ (text : List ℕ) (i : ℕ) (ws xs : List ℕ) (from w : ℕ) (op : Op) (left right : Behind) (bracket : get_or text i 0 ≡ 40) (one : Packed text (i + 1) ws (from + 1) left) (is : byte_of op ≡ get_or text (left.byte + 1) 0) (two : Packed text (left.byte + 3) xs left.word right) (kept : (k : ℕ) → k < left.word → get_or xs k 0 ≡ get_or ws k 0) (fits : right.byte < length text) (room : from < length xs) (q : item_of w ≡ Apply op) where
+module _ (text : List ℕ) (i : ℕ) (ws xs : List ℕ) (from w : ℕ) (op : Op) (left right : Behind) (bracket : get_or text i 0 ≡ 40) (one : Packed text (i + 1) ws (from + 1) left) (is : byte_of op ≡ get_or text (left.byte + 1) 0) (two : Packed text (left.byte + 3) xs left.word right) (kept : (k : ℕ) → k < left.word → get_or xs k 0 ≡ get_or ws k 0) (fits : right.byte < length text) (room : from < length xs) (q : item_of w ≡ Some (Apply op)) where
   others : (k : ℕ) → from < k → get_or (set xs from w) k 0 ≡ get_or xs k 0
   others k h = get_or-set_other xs from k w 0 (λ p. omega arith)
 
@@ -64,9 +64,3 @@ module _ (text : List ℕ) (i : ℕ) (ws xs : List ℕ) (from w : ℕ) (op : Op)
   pub packed-node : Packed text i (set xs from w) from record { byte = right.byte + 1; word = right.word }
   packed-node =
       record { more = omega (arith, one.more, two.more); inside = omega arith; stop = end_is; code = λ ns n di owns le e s. coded ns n di e s owns le }
-
--- What is outside stays, as both halves and the operator's word leave it.
-pub node_kept : (ws xs ys : List ℕ) (from to m w : ℕ) → from < to → from + 1 < m → ((k : ℕ) → (k < from + 1) ⊎ (to ≤ k) → get_or xs k 0 ≡ get_or ws k 0) → ((k : ℕ) → (k < m) ⊎ (to ≤ k) → get_or ys k 0 ≡ get_or xs k 0) →
-    (k : ℕ) → (k < from) ⊎ (to ≤ k) → get_or (set ys from w) k 0 ≡ get_or ws k 0
-node_kept ws xs ys from to m w ft fm one two k (inl p) = get_or-set_other ys from k w 0 (λ q. omega arith) ∙ two k (inl (omega arith)) ∙ one k (inl (omega arith))
-node_kept ws xs ys from to m w ft fm one two k (inr p) = get_or-set_other ys from k w 0 (λ q. omega arith) ∙ two k (inr p) ∙ one k (inr p)

@@ -71,8 +71,8 @@ leaf-more m n Lane e h is = is
 leaf-more m n Group e h is = is
 leaf-more m n Lanes e h is = is
 
-pub word-evaluated : (text : List ℕ) (i : ℕ) (own : List ℕ) (r : Row) (out : List ℕ) (j : ℕ) (leaf : Leaf) → get_or text i 0 ≢ 40 → WordEnd text i j → LeafAt simple text (between i j text) leaf → LeafWorth leaf own r out → Evaluated text i own r out j
-word-evaluated text i own r out j leaf h we at worth =
+pub word-evaluated : (text : List ℕ) (i : ℕ) (r : Row) (out : List ℕ) (j : ℕ) (leaf : Leaf) → get_or text i 0 ≢ 40 → WordEnd text i j → LeafAt simple text (between i j text) leaf → LeafWorth leaf r out → Evaluated text i r out j
+word-evaluated text i r out j leaf h we at worth =
     record {
       from = we.from;
       within = we.within;
@@ -80,8 +80,8 @@ word-evaluated text i own r out j leaf h we at worth =
       each = λ ns n di le e s. worth e (leaf-more (length ns) r.owns leaf e le (word-leaf ns text n i e s h j we leaf di at));
     }
 
-pub none-evaluated : (text : List ℕ) (i : ℕ) (own : List ℕ) (r : Row) (out : List ℕ) → length text ≤ i → Evaluated text i own r out i
-none-evaluated text i own r out h =
+pub none-evaluated : (text : List ℕ) (i : ℕ) (r : Row) (out : List ℕ) → length text ≤ i → Evaluated text i r out i
+none-evaluated text i r out h =
     record {
       from = omega arith;
       within = λ q. q;

@@ -7,6 +7,9 @@ use Rattle.std.proofs.lemmas.List.{length-take, get_or-take, get_or-drop}
 use Rattle.lanes.specs.Syntax.{Expr, fixed, var, lane, group, lanes, plus, minus, times, over, rest_of, less, same}
 use Rattle.lanes.specs.Step.{whole}
 use Rattle.grammar.specs.Spelling.{Named, SpellsExpr, IsNumber, letter, digit, decimal, one_of, keywords, same_bytes}
+use Rattle.grammar.specs.declared.keywords.Keyword.{Keyword}
+use Rattle.grammar.specs.declared.keywords.Keyword.TheVariants as kw
+use Rattle.grammar.specs.Runs.{written}
 use Rattle.grammar.specs.Names.{NamesIn, FirstAt}
 use Rattle.grammar.proofs.Scanned.{byte_at}
 use Rattle.values.specs.declared.leaves.Leaf.{Leaf}
@@ -106,6 +109,31 @@ unfolding one_of keywords same_bytes
 lanes-leaf text u q ns n di =
     word-cases ns u (LeafIs (length ns) Lanes) (λ a i. absurd (no_number text u (codes "lanes") q refl refl a i)) (λ k m. absurd (no_name text u (codes "lanes") q refl refl ns n k m))
     (λ p. absurd (omega (arith, ap length (sym q ∙ p)))) (λ p. absurd (omega (arith, ap (λ t. get_or t 0 0) (sym q ∙ p)))) (λ _. refl)
+
+-- A word of the language that is no expression.
+module _ (text u : List ℕ) (k : Keyword) (q : u ≡ written k) (no_digit : digit (get_or (written k) 0 0) ≡ false) (word : one_of keywords (written k) ≡ true) (no_lane : get_or (written k) 0 0 ≢ 108) (no_group : get_or (written k) 0 0 ≢ 103) where
+  first_byte : (w : List ℕ) → u ≡ w → get_or (written k) 0 0 ≡ get_or w 0 0
+  first_byte w p = ap (λ t. get_or t 0 0) (sym q ∙ p)
+
+  mute_leaf : LeafAt simple text u (Fixed 0)
+  mute_leaf ns n di =
+      word-cases ns u (LeafIs (length ns) (Fixed 0)) (λ a i. absurd (no_number text u (written k) q no_digit word a i)) (λ j m. absurd (no_name text u (written k) q no_digit word ns n j m))
+      (λ p. absurd (no_lane (first_byte (codes "lane") p))) (λ p. absurd (no_group (first_byte (codes "group") p))) (λ p. absurd (no_lane (first_byte (codes "lanes") p)))
+
+pub mute-leaf : (text u : List ℕ) (k : Keyword) → u ≡ written k → k ≢ kw.Lane → k ≢ kw.Group → k ≢ kw.Lanes → LeafAt simple text u (Fixed 0)
+unfolding one_of keywords same_bytes
+mute-leaf text u kw.Own q a b c = mute_leaf text u kw.Own q refl refl (omega arith) (omega arith)
+mute-leaf text u kw.Cells q a b c = mute_leaf text u kw.Cells q refl refl (omega arith) (omega arith)
+mute-leaf text u kw.Cell q a b c = mute_leaf text u kw.Cell q refl refl (omega arith) (omega arith)
+mute-leaf text u kw.Field q a b c = mute_leaf text u kw.Field q refl refl (omega arith) (omega arith)
+mute-leaf text u kw.Barrier q a b c = mute_leaf text u kw.Barrier q refl refl (omega arith) (omega arith)
+mute-leaf text u kw.If q a b c = mute_leaf text u kw.If q refl refl (omega arith) (omega arith)
+mute-leaf text u kw.Else q a b c = mute_leaf text u kw.Else q refl refl (omega arith) (omega arith)
+mute-leaf text u kw.End q a b c = mute_leaf text u kw.End q refl refl (omega arith) (omega arith)
+mute-leaf text u kw.While q a b c = mute_leaf text u kw.While q refl refl (omega arith) (omega arith)
+mute-leaf text u kw.Lane q a b c = absurd (a refl)
+mute-leaf text u kw.Group q a b c = absurd (b refl)
+mute-leaf text u kw.Lanes q a b c = absurd (c refl)
 
 -- A word that is no word of the language.
 pub other-leaf : (text u : List ℕ) (r : Leaf) → (u ≡ codes "lane" → ⊥) → (u ≡ codes "group" → ⊥) → (u ≡ codes "lanes" → ⊥) → LeafAt plain text u r → LeafAt simple text u r

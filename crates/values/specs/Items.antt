@@ -1,11 +1,11 @@
 -- Expressions as words: an operator before its two operands.
-use Rattle.std.specs.Prelude.{◌≡◌, ℕ, ◌+◌, ◌/◌, ◌%◌, ◌<◌, ◌≤◌, cond, List, length, ◌==◌, slice_index}
+use Rattle.std.specs.Prelude.{◌≡◌, ℕ, ◌+◌, ◌/◌, ◌%◌, ◌<◌, ◌≤◌, cond, List, length, Some, None, Option, ◌==◌, slice_index}
 use Rattle.lanes.specs.Syntax.{Expr, fixed, var, lane, group, lanes, plus, minus, times, over, rest_of, less, same}
 use Rattle.values.specs.declared.ops.Op.TheVariants.{Plus, Minus, Times, Over, Rest, Less, Same}
 use Rattle.values.specs.declared.leaves.Leaf.{Leaf}
 use Rattle.values.specs.declared.leaves.Leaf.TheVariants.{Fixed, Own, Lane, Group, Lanes}
 use Rattle.values.specs.declared.items.Item.{Item}
-use Rattle.values.specs.declared.items.Item.TheVariants.{Word, Apply, Nothing}
+use Rattle.values.specs.declared.items.Item.TheVariants.{Word, Apply}
 use Rattle.grammar.specs.Spelling.{Named}
 use Rattle.grammar.specs.Stands.{Stands}
 use Rattle.grammar.specs.Names.{NamesIn, Distinct}
@@ -15,22 +15,22 @@ use Rattle.values.specs.Worth.{LeafIs}
 use Rattle.values.specs.Rows.{Values}
 
 -- What a word is: its kind in the low four bits, a number above.
-abbrev pub kind_of_spec : ℕ → ℕ → Item
+abbrev pub kind_of_spec : ℕ → ℕ → Option Item
 kind_of_spec k a =
-    cond (k == 1) (Word (Fixed a))
-    (cond (k == 2) (Word (Own a))
-    (cond (k == 3) (Word Lane)
-    (cond (k == 4) (Word Group)
-    (cond (k == 5) (Word Lanes)
-    (cond (k == 6) (Apply Plus)
-    (cond (k == 7) (Apply Minus)
-    (cond (k == 8) (Apply Times)
-    (cond (k == 9) (Apply Over)
-    (cond (k == 10) (Apply Rest)
-    (cond (k == 11) (Apply Less)
-    (cond (k == 12) (Apply Same) Nothing)))))))))))
+    cond (k == 1) (Some (Word (Fixed a)))
+    (cond (k == 2) (Some (Word (Own a)))
+    (cond (k == 3) (Some (Word Lane))
+    (cond (k == 4) (Some (Word Group))
+    (cond (k == 5) (Some (Word Lanes))
+    (cond (k == 6) (Some (Apply Plus))
+    (cond (k == 7) (Some (Apply Minus))
+    (cond (k == 8) (Some (Apply Times))
+    (cond (k == 9) (Some (Apply Over))
+    (cond (k == 10) (Some (Apply Rest))
+    (cond (k == 11) (Some (Apply Less))
+    (cond (k == 12) (Some (Apply Same)) None)))))))))))
 
-abbrev pub item_of : ℕ → Item
+abbrev pub item_of : ℕ → Option Item
 item_of w = kind_of_spec (w % 16) (w / 16)
 
 -- A leaf whose number does not fit into what is above the kind.
@@ -44,7 +44,7 @@ Large Lanes = ⊥
 -- At place i of the words stands a leaf that is the expression, and at j is what is behind it.
 pub record LeafCoded (owns : ℕ) (ws : List ℕ) (i : ℕ) (e : Expr) (j : ℕ) : Type 0 where
   pub leaf : Leaf
-  pub item : item_of (slice_index ws i) ≡ Word leaf
+  pub item : item_of (slice_index ws i) ≡ Some (Word leaf)
   pub is : LeafIs owns leaf e
   pub next : j ≡ i + 1
 
@@ -55,21 +55,21 @@ Coded owns ws i (var k) j = LeafCoded owns ws i (var k) j
 Coded owns ws i lane j = LeafCoded owns ws i lane j
 Coded owns ws i group j = LeafCoded owns ws i group j
 Coded owns ws i lanes j = LeafCoded owns ws i lanes j
-Coded owns ws i (plus e f) j = (m : ℕ) × (item_of (slice_index ws i) ≡ Apply Plus) × Coded owns ws (i + 1) e m × Coded owns ws m f j
-Coded owns ws i (minus e f) j = (m : ℕ) × (item_of (slice_index ws i) ≡ Apply Minus) × Coded owns ws (i + 1) e m × Coded owns ws m f j
-Coded owns ws i (times e f) j = (m : ℕ) × (item_of (slice_index ws i) ≡ Apply Times) × Coded owns ws (i + 1) e m × Coded owns ws m f j
-Coded owns ws i (over e f) j = (m : ℕ) × (item_of (slice_index ws i) ≡ Apply Over) × Coded owns ws (i + 1) e m × Coded owns ws m f j
-Coded owns ws i (rest_of e f) j = (m : ℕ) × (item_of (slice_index ws i) ≡ Apply Rest) × Coded owns ws (i + 1) e m × Coded owns ws m f j
-Coded owns ws i (less e f) j = (m : ℕ) × (item_of (slice_index ws i) ≡ Apply Less) × Coded owns ws (i + 1) e m × Coded owns ws m f j
-Coded owns ws i (same e f) j = (m : ℕ) × (item_of (slice_index ws i) ≡ Apply Same) × Coded owns ws (i + 1) e m × Coded owns ws m f j
+Coded owns ws i (plus e f) j = (m : ℕ) × (item_of (slice_index ws i) ≡ Some (Apply Plus)) × Coded owns ws (i + 1) e m × Coded owns ws m f j
+Coded owns ws i (minus e f) j = (m : ℕ) × (item_of (slice_index ws i) ≡ Some (Apply Minus)) × Coded owns ws (i + 1) e m × Coded owns ws m f j
+Coded owns ws i (times e f) j = (m : ℕ) × (item_of (slice_index ws i) ≡ Some (Apply Times)) × Coded owns ws (i + 1) e m × Coded owns ws m f j
+Coded owns ws i (over e f) j = (m : ℕ) × (item_of (slice_index ws i) ≡ Some (Apply Over)) × Coded owns ws (i + 1) e m × Coded owns ws m f j
+Coded owns ws i (rest_of e f) j = (m : ℕ) × (item_of (slice_index ws i) ≡ Some (Apply Rest)) × Coded owns ws (i + 1) e m × Coded owns ws m f j
+Coded owns ws i (less e f) j = (m : ℕ) × (item_of (slice_index ws i) ≡ Some (Apply Less)) × Coded owns ws (i + 1) e m × Coded owns ws m f j
+Coded owns ws i (same e f) j = (m : ℕ) × (item_of (slice_index ws i) ≡ Some (Apply Same)) × Coded owns ws (i + 1) e m × Coded owns ws m f j
 
 -- What evaluating the words from place i on promises, where it stops at j: for every expression that stands there, the values for each
 -- lane, and that the expression ends at j.
-pub record Unpacked (ws : List ℕ) (i : ℕ) (own : List ℕ) (r : Row) (out : List ℕ) (j : ℕ) : Type 0 where
+pub record Unpacked (ws : List ℕ) (i : ℕ) (r : Row) (out : List ℕ) (j : ℕ) : Type 0 where
   pub from : i ≤ j
   pub within : i ≤ length ws → j ≤ length ws
   pub stop : (e : Expr) (k : ℕ) → Coded r.owns ws i e k → j ≡ k
-  pub each : (e : Expr) (k : ℕ) → Coded r.owns ws i e k → Values r own e out
+  pub each : (e : Expr) (k : ℕ) → Coded r.owns ws i e k → Values r e out
 
 -- The words hold from place `from` on the expression that stands at byte i of the text; b says what is behind it in the text and in
 -- the words.

@@ -40,6 +40,12 @@ abbrev pub OpAt : ℕ → Option Op → Type 0
 OpAt b (Some op) = byte_of op ≡ b
 OpAt b None = (op : Op) → byte_of op ≢ b
 
+-- Each of the numbers z is what P says of those of x and y, as far as both go; the others are those of x.
+pub record AppliedBy (P : ℕ → ℕ → ℕ → Type 0) (x y z : List ℕ) : Type 0 where
+  pub long : length z ≡ length x
+  pub each : (k : ℕ) → k < length x → k < length y → P (slice_index x k) (slice_index y k) (slice_index z k)
+  pub rest : (k : ℕ) → length y ≤ k → slice_index z k ≡ slice_index x k
+
 -- Each of the numbers z is x op y, as far as both go; the others are those of x.
 pub record Applied (op : Op) (x y z : List ℕ) : Type 0 where
   pub long : length z ≡ length x

@@ -15,5 +15,5 @@ Ready text i ws from =
     ⊎ ((ns : List (List ℕ)) → NamesIn ns text → Distinct ns → (owns : ℕ) → length ns ≤ owns → (e : Expr) → Stands (Named ns) text i e → (j : ℕ) × Coded owns ws from e j)
 
 -- The numbers are the values, for each lane, of whichever expression stands at byte i of the text.
-abbrev pub Worth : List ℕ → ℕ → List ℕ → Row → List ℕ → Type 0
-Worth text i own r out = (ns : List (List ℕ)) → NamesIn ns text → Distinct ns → length ns ≤ r.owns → (e : Expr) → Stands (Named ns) text i e → Values r own e out
+abbrev pub Worth : List ℕ → ℕ → Row → List ℕ → Type 0
+Worth text i r out = (ns : List (List ℕ)) → NamesIn ns text → Distinct ns → length ns ≤ r.owns → (e : Expr) → Stands (Named ns) text i e → Values r e out

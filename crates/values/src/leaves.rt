@@ -5,10 +5,12 @@ ghost use Rattle.lanes.specs.Step.{whole};
 ghost use Rattle.grammar.specs.Spelling.{decimal};
 ghost use Rattle.values.specs.Worth.{simple, plain, LeafAt};
 
+use crate::ops::{product, sum};
 use grammar::bytes::{byte, is_digit};
+use grammar::keywords::{Keyword, keyword_of};
 use grammar::names::name_index;
 
-#[derive(Clone, Copy)]
+#[derive(Clone, Copy, Debug, PartialEq, Eq)]
 pub enum Leaf {
     Fixed(u32),
     Own(u32),
@@ -21,12 +23,10 @@ pub enum Leaf {
 fn number_of(digits: &[u8]) -> u32
     ensures { result ≡ decimal 0 digits.now % whole }
 {
-    let mut n: u64 = 0;
-    for b in digits {
-        let d = if *b < 48 { 0 } else { *b - 48 };
-        n = (n * 10 + d as u64) % 0x1_0000_0000;
-    }
-    n as u32
+    digits.iter().fold(
+        0,
+        |n, b| sum(product(n, 10), u32::from(b.saturating_sub(b'0'))),
+    )
 }
 
 // What the word text[at..end] is, if it is no word of the language: a number or a name; 0 if it is nothing.
@@ -50,14 +50,13 @@ pub fn leaf_of(text: &[u8], at: usize, end: usize) -> Leaf
     requires to { end ≤ length text.now }
     ensures { LeafAt simple text.now (between at end text.now) result }
 {
-    let word = &text[at..end];
-    if word == b"lane".as_slice() {
-        Leaf::Lane
-    } else if word == b"group".as_slice() {
-        Leaf::Group
-    } else if word == b"lanes".as_slice() {
-        Leaf::Lanes
-    } else {
-        number_or_name(text, at, end)
+    let Some(word) = keyword_of(&text[at..end]) else {
+        return number_or_name(text, at, end);
+    };
+    match word {
+        Keyword::Lane => Leaf::Lane,
+        Keyword::Group => Leaf::Group,
+        Keyword::Lanes => Leaf::Lanes,
+        _ => Leaf::Fixed(0),
     }
 }

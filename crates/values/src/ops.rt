@@ -3,7 +3,7 @@ ghost use Rattle.std.specs.Prelude.{◌≡◌};
 ghost use Rattle.lanes.specs.Step.{sum_of, difference_of, product_of, quotient_of, remainder_of, less_of, same_of};
 ghost use Rattle.values.specs.Ops.{op_of, OpAt};
 
-#[derive(Clone, Copy)]
+#[derive(Clone, Copy, Debug, PartialEq, Eq)]
 pub enum Op {
     Plus,
     Minus,
@@ -47,13 +47,13 @@ pub fn remainder(a: u32, b: u32) -> u32
 pub fn less(a: u32, b: u32) -> u32
     ensures { result ≡ less_of a b }
 {
-    if a < b { 1 } else { 0 }
+    u32::from(a < b)
 }
 
 pub fn same(a: u32, b: u32) -> u32
     ensures { result ≡ same_of a b }
 {
-    if a == b { 1 } else { 0 }
+    u32::from(a == b)
 }
 
 pub fn apply(op: Op, a: u32, b: u32) -> u32
@@ -70,7 +70,7 @@ pub fn apply(op: Op, a: u32, b: u32) -> u32
     }
 }
 
-// The operator that a byte is.
+// The operator that a byte is, if it is one. No TryFrom: of a byte that is no operator there is nothing to tell.
 pub fn op_from(b: u8) -> Option<Op>
     ensures { OpAt b result }
 {

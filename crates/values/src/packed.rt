@@ -1,6 +1,5 @@
 // Expressions as words, an operator before its two operands: read from the text once, and worked out for a row as often as wanted.
 ghost use Rattle.std.specs.Prelude.{◌≡◌, ℕ, ◌+◌, ◌<◌, ◌≤◌, ◌≢◌, ◌⊎◌, length, IfSome, slice_index};
-ghost use Rattle.values.specs.Rows.{RowFits};
 ghost use Rattle.values.specs.Items.{Unpacked, Packed};
 
 use crate::eval::leaf_row;
@@ -13,7 +12,7 @@ use grammar::bytes::byte;
 use grammar::words::word_end;
 
 // What is behind an expression: a byte of the text, and a place of the words.
-#[derive(Clone, Copy)]
+#[derive(Clone, Copy, Debug, PartialEq, Eq)]
 pub struct Behind {
     pub byte: usize,
     pub word: usize,
@@ -67,26 +66,26 @@ pub fn compact(text: &[u8], at: usize, words: &mut [u32], from: usize, to: usize
 }
 
 // The value of the expression that stands at a place of the words, for each lane of a row, and the place behind it.
-pub fn eval_words(words: &[u32], at: usize, own: &[u32], row: Row, out: &mut [u32]) -> usize
-    requires { RowFits row own.now (length out.old) }
-    ensures { Unpacked words.now at own.now row out.new result }
+pub fn eval_words(words: &[u32], at: usize, row: Row, out: &mut [u32]) -> usize
+    requires { length out.old ≡ row.width }
+    ensures { Unpacked words.now at row.entry out.new result }
 {
     if at >= words.len() {
         return at;
     }
     match unpack(words[at]) {
-        Item::Word(leaf) => {
-            leaf_row(leaf, own, row, out);
+        Some(Item::Word(leaf)) => {
+            leaf_row(leaf, row, out);
             at + 1
         }
-        Item::Apply(op) => {
-            let mid = eval_words(words, at + 1, own, row, out);
+        Some(Item::Apply(op)) => {
+            let mid = eval_words(words, at + 1, row, out);
             let mut room = [0; 32];
-            let right = &mut room[0..out.len()];
-            let end = eval_words(words, mid, own, row, right);
+            let right = &mut room[..row.width];
+            let end = eval_words(words, mid, row, right);
             apply_row(op, out, right);
             end
         }
-        Item::Nothing => at,
+        None => at,
     }
 }

@@ -1,6 +1,5 @@
 // An expression worked out from words where they hold it, and else from the text.
 ghost use Rattle.std.specs.Prelude.{◌≡◌, ℕ, ◌<◌, ◌≤◌, ◌⊎◌, length, slice_index};
-ghost use Rattle.values.specs.Rows.{RowFits};
 ghost use Rattle.values.specs.Ready.{Ready, Worth};
 
 use crate::eval::eval_row;
@@ -14,28 +13,19 @@ pub fn make_ready(text: &[u8], at: usize, words: &mut [u32], from: usize, to: us
     ensures kept { (k : ℕ) → (k < from) ⊎ (to ≤ k) → slice_index words.new k ≡ slice_index words.old k }
     ensures ready { Ready text.now at words.new from }
 {
-    match compact(text, at, words, from, to) {
-        Some(_) => {}
-        None => words[from] = 0,
+    if compact(text, at, words, from, to).is_none() {
+        words[from] = 0;
     }
 }
 
 // The value of the expression that stands at a byte of the text, for each lane of a row.
-pub fn eval_at(
-    text: &[u8],
-    at: usize,
-    words: &[u32],
-    from: usize,
-    own: &[u32],
-    row: Row,
-    out: &mut [u32],
-)
-    requires { RowFits row own.now (length out.old) }
-    ensures { Ready text.now at words.now from → Worth text.now at own.now row out.new }
+pub fn eval_at(text: &[u8], at: usize, words: &[u32], from: usize, row: Row, out: &mut [u32])
+    requires { length out.old ≡ row.width }
+    ensures { Ready text.now at words.now from → Worth text.now at row.entry out.new }
 {
     if from < words.len() && words[from] != 0 {
-        eval_words(words, from, own, row, out);
+        eval_words(words, from, row, out);
     } else {
-        eval_row(text, at, own, row, out);
+        eval_row(text, at, row, out);
     }
 }

@@ -1,23 +1,24 @@
-use Rattle.std.proofs.Common.{sym, ◌∙◌}
+use Rattle.std.proofs.Common.{◌∙◌, ap}
 use Rattle.std.specs.List.{between}
-use Rattle.std.proofs.lemmas.Slice.Eq.{slice_eq-Decides}
-use Rattle.std.proofs.lemmas.Bool.Decides.{not_from_Decides, Decides-eqb}
-use Rattle.values.proofs.Words.{lane-leaf, group-leaf, lanes-leaf, other-leaf}
+use Rattle.grammar.specs.declared.keywords.Keyword.TheVariants as kw
+use Rattle.grammar.specs.Runs.{written}
+use Rattle.values.proofs.Words.{lane-leaf, group-leaf, lanes-leaf, mute-leaf, other-leaf}
 use Rattle.values.proofs.leaves.leaf_of.Goals as goal
 
-pub returns-then-eq : goal.returns-then-eq
-returns-then-eq c = lane-leaf c.args.text.now (between c.args.at c.args.end c.args.text.now) ((slice_eq-Decides Decides-eqb _ _ _ c.eq.ensures).0 c.if-eq.true ∙ c.as_slice.ensures)
+pub returns-in-Lane : goal.returns-in-Lane
+returns-in-Lane c = lane-leaf c.args.text.now (between c.args.at c.args.end c.args.text.now) (c.in-Some.ensures ∙ ap written c.in-Lane.is)
 
-pub returns-then-eq-2 : goal.returns-then-eq-2
-returns-then-eq-2 c = group-leaf c.args.text.now (between c.args.at c.args.end c.args.text.now) ((slice_eq-Decides Decides-eqb _ _ _ c.eq-else-eq.ensures).0 c.if-eq-2.true ∙ c.as_slice-else-eq.ensures)
+pub returns-in-Group : goal.returns-in-Group
+returns-in-Group c = group-leaf c.args.text.now (between c.args.at c.args.end c.args.text.now) (c.in-Some.ensures ∙ ap written c.in-Group.is)
 
-pub returns-then-eq-3 : goal.returns-then-eq-3
-returns-then-eq-3 c = lanes-leaf c.args.text.now (between c.args.at c.args.end c.args.text.now) ((slice_eq-Decides Decides-eqb _ _ _ c.eq-else-eq-2.ensures).0 c.if-eq-3.true ∙ c.as_slice-else-eq-2.ensures)
+pub returns-in-Lanes : goal.returns-in-Lanes
+returns-in-Lanes c = lanes-leaf c.args.text.now (between c.args.at c.args.end c.args.text.now) (c.in-Some.ensures ∙ ap written c.in-Lanes.is)
 
-pub returns-else-eq-3 : goal.returns-else-eq-3
-returns-else-eq-3 c =
-    other-leaf c.args.text.now (between c.args.at c.args.end c.args.text.now) c.number_or_name.result
-    (λ q. not_from_Decides _ (slice_eq-Decides Decides-eqb _ _ _ c.eq.ensures) c.if-eq.false (q ∙ sym c.as_slice.ensures))
-    (λ q. not_from_Decides _ (slice_eq-Decides Decides-eqb _ _ _ c.eq-else-eq.ensures) c.if-eq-2.false (q ∙ sym c.as_slice-else-eq.ensures))
-    (λ q. not_from_Decides _ (slice_eq-Decides Decides-eqb _ _ _ c.eq-else-eq-2.ensures) c.if-eq-3.false (q ∙ sym c.as_slice-else-eq-2.ensures))
+pub returns-in_default-word : goal.returns-in_default-word
+returns-in_default-word c =
+    mute-leaf c.args.text.now (between c.args.at c.args.end c.args.text.now) c.in-Some.word c.in-Some.ensures c.in_default-word.not-Lane c.in_default-word.not-Group c.in_default-word.not-Lanes
+
+pub returns-in_default : goal.returns-in_default
+returns-in_default c =
+    other-leaf c.args.text.now (between c.args.at c.args.end c.args.text.now) c.number_or_name.result (c.in_default.ensures kw.Lane) (c.in_default.ensures kw.Group) (c.in_default.ensures kw.Lanes)
     c.number_or_name.ensures

@@ -1,18 +1,13 @@
 use Rattle.std.proofs.Common.{◌<◌, length, sym, ◌∙◌, inl, arith}
-use Rattle.values.proofs.Packing.{packed-node, node_kept}
+use Rattle.values.proofs.Packing.{packed-node}
 use Rattle.values.proofs.packed.+compact.Goals as goal
 
-pub returns : goal.returns
-returns t c =
+pub returns-clause-packed : goal.returns-clause-packed
+returns-clause-packed t c =
     let one = c.in_ok-left.ensures.packed in
     let two = c.in_ok-right.ensures.packed in
-    let room : c.args.from < length c.compact-2.new.words = omega arith in
-    record {
-      kept = node_kept c.args.words.now c.compact.new.words c.compact-2.new.words c.args.from c.args.to c.in_ok-left.left.word c.pack_op.result c.if-from-to.false one.0.more
-          c.compact.ensures.kept c.compact-2.ensures.kept;
-      packed = (
-        packed-node c.args.text.now c.args.at c.compact.new.words c.compact-2.new.words c.args.from c.pack_op.result c.in_ok-op.op c.in_ok-left.left c.in_ok-right.right
-            (sym c.byte.ensures.is ∙ c.if-byte-ne40.false) one.0 c.in_ok-op.ensures two.0 (λ k h. c.compact-2.ensures.kept k (inl h)) c.if-right-text.false room c.pack_op.ensures,
-        two.1,
-      );
-    }
+    let room : c.args.from < length c.compact-2.new.words = omega arith in (
+      packed-node c.args.text.now c.args.at c.compact.new.words c.compact-2.new.words c.args.from c.pack_op.result c.in_ok-op.op c.in_ok-left.left c.in_ok-right.right
+          (sym c.byte.ensures.is ∙ c.if-byte-ne40.false) one.0 c.in_ok-op.ensures two.0 (λ k h. c.compact-2.ensures.kept k (inl h)) c.if-right-text.false room c.pack_op.ensures,
+      two.1,
+    )

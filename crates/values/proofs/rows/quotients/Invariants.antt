@@ -1,7 +1,0 @@
-use Rattle.std.proofs.Common.{◌≡◌, ℕ, ◌<◌, ◌≤◌, get_or}
-use Rattle.lanes.specs.Step.{quotient_of}
-use Rattle.values.proofs.rows.quotients.Given as goal
-
-abbrev pub invariant-loop-i : goal.invariant-loop-i
-invariant-loop-i l =
-    ((k : ℕ) → k < l.i → get_or l.x k 0 ≡ quotient_of (get_or l.initial.x k 0) (get_or l.y k 0)) × ((k : ℕ) → l.i ≤ k → get_or l.x k 0 ≡ get_or l.initial.x k 0)

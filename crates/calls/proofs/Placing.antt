@@ -8,6 +8,7 @@ use Rattle.lanes.specs.Told.{Shows}
 use Rattle.lanes.proofs.Turns.{marked-did, marked-idle}
 use Rattle.lanes.proofs.Crossing.{All}
 use Rattle.lanes.proofs.Runs.{all_append, all-at}
+use Rattle.store.specs.Layout.{numbered}
 use Rattle.machine.specs.declared.verdict.Verdict.{Verdict}
 use Rattle.machine.specs.declared.verdict.Verdict.TheVariants.{Field, Raced, Wrong, Stuck, TooLong}
 use Rattle.machine.specs.Sofar.{first_mark, second_mark}
@@ -61,7 +62,7 @@ pub shown-place : (most n : ℕ) (d : Grid) (ts : List Turn) (v : Verdict) (cs :
 unfolding Shows
 shown-place most n d ts Field cs s = tt
 shown-place most n d ts (Raced r) cs (j, k, ne, hj, hk, ej, ek, ra, fi) =
-    both_own r.first.who.group r.second.who.group r.place
+    both_own r.first.who.group r.second.who.group (numbered r.place)
     (all-at Own (marked n d ts) j (first_mark r) (marked-own n d ts) hj ej) (all-at Own (marked n d ts) k (second_mark r) (marked-own n d ts) hk ek)
 shown-place most n d ts (Wrong g l i) cs s = tt
 shown-place most n d ts (Stuck g) cs s = tt

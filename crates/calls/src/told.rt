@@ -7,6 +7,7 @@ ghost use Rattle.calls.specs.Tell.{OnePlace, touch_of_spec, place_by};
 use formats::told::{Place, Told, Touch};
 use machine::outcome::Race;
 use machine::verdict::Verdict;
+use store::Whereabouts;
 use touches::Found;
 
 // One of the two touches.
@@ -21,13 +22,12 @@ fn touch_of(found: Found) -> Touch
     }
 }
 
-fn place_of(place: usize) -> Place
+fn place_of(place: Whereabouts) -> Place
     ensures { result ≡ place_by place }
 {
-    if place == 0 {
-        Place::Field
-    } else {
-        Place::Cell
+    match place {
+        Whereabouts::Field => Place::Field,
+        Whereabouts::Group(_) => Place::Cell,
     }
 }
 
@@ -43,7 +43,7 @@ fn race_told(race: Race) -> Told
     }
 }
 
-// A race's place is 0 for the field and g + 1 for group g, whose lanes alone touch its cells.
+// The cells of a group are touched by its own lanes alone.
 pub fn told_by(verdict: Verdict) -> Told
     ensures { (cs : List ℕ) → OnePlace verdict → meant result cs ≡ told_of verdict cs }
 {

@@ -1,10 +1,12 @@
 // The joins of a row of lanes: where lanes that a branch has parted come together again.
 #![tactic(auto)]
 
+mod place;
 mod row;
 mod stack;
 mod story;
 
+pub use place::RowPlace;
 pub use row::{depth, full, join_of, width};
 pub use stack::{clear, leave, push};
 pub use story::joins_kept_stands;

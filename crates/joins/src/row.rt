@@ -2,14 +2,16 @@
 ghost use Rattle.std.specs.Prelude.{◌≡◌, ℕ, ◌+◌, ◌*◌, ◌<◌, ◌≤◌, length, nat_lt};
 ghost use Rattle.masks.specs.Masks.{on};
 ghost use Rattle.store.specs.Layout.{room};
-ghost use Rattle.joins.specs.Stack.{RowAt, width_of, depth_of, join_at};
+ghost use Rattle.joins.specs.Stack.{width_of, depth_of, join_at};
 ghost use Rattle.joins.specs.Words.{Deep, JoinPut};
 
 use crate::Join;
+use crate::place::RowPlace;
 use masks::first_lanes;
-use store::{Sizes, put_word, word_of};
+use store::{put_word, word_of};
 
 // How many lanes the row has that begins at lane `start`, of so many lanes.
+#[tactic(auto, unfolding(crate::specs::Stack::width_of))]
 pub fn width(lanes: usize, start: usize) -> usize
     requires { start < lanes }
     ensures is { result ≡ width_of lanes start }
@@ -26,52 +28,58 @@ pub fn full(lanes: usize, start: usize) -> u32
     first_lanes(width(lanes, start))
 }
 
-// How many joins are on the stack.
-pub fn depth(z: Sizes, lanes: &[u32], g: usize, start: usize) -> usize
-    requires fit { room z ≤ length lanes.now }
-    requires row { RowAt z g start }
-    ensures is { result ≡ depth_of z lanes.now g start }
-    ensures most { result ≤ 16 * width_of z.lanes start }
+// How many joins the row has room for.
+pub fn most(row: &RowPlace) -> usize
+    ensures { result ≡ 16 * width_of row.now.sizes.lanes row.now.start }
 {
-    (word_of(z, lanes, g, 6, start) as usize).min(16 * width(z.lanes, start))
+    16 * width(row.sizes.lanes, row.start)
+}
+
+// How many joins are on the stack.
+#[tactic(auto, unfolding(crate::specs::Stack::depth_of))]
+pub fn depth(row: &RowPlace, lanes: &[u32]) -> usize
+    requires fit { room row.now.sizes ≤ length lanes.now }
+    ensures is { result ≡ depth_of row.now.sizes lanes.now row.now.group row.now.start }
+    ensures most { result ≤ 16 * width_of row.now.sizes.lanes row.now.start }
+{
+    (word_of(row.sizes, lanes, row.group, 6, row.start) as usize).min(most(row))
 }
 
 // Join k, counted from the oldest.
-pub fn join_of(z: Sizes, lanes: &[u32], g: usize, start: usize, k: usize) -> Join
-    requires fit { room z ≤ length lanes.now }
-    requires row { RowAt z g start }
-    requires there { k < 16 * width_of z.lanes start }
-    ensures { result ≡ join_at z lanes.now g start k }
+#[tactic(auto, unfolding(crate::specs::Stack::width_of))]
+pub fn join_of(row: &RowPlace, lanes: &[u32], k: usize) -> Join
+    requires fit { room row.now.sizes ≤ length lanes.now }
+    requires there { k < 16 * width_of row.now.sizes.lanes row.now.start }
+    ensures { result ≡ join_at row.now.sizes lanes.now row.now.group row.now.start k }
 {
-    let l = start + k / 16;
+    let l = row.start + k / 16;
     let s = k % 16;
     Join {
-        branch: word_of(z, lanes, g, 16 + s, l),
-        line: word_of(z, lanes, g, 32 + s, l),
-        lanes: word_of(z, lanes, g, 48 + s, l),
+        branch: word_of(row.sizes, lanes, row.group, 16 + s, l),
+        line: word_of(row.sizes, lanes, row.group, 32 + s, l),
+        lanes: word_of(row.sizes, lanes, row.group, 48 + s, l),
     }
 }
 
 // Says how many joins are on the stack.
-pub fn put_depth(z: Sizes, lanes: &mut [u32], g: usize, start: usize, n: usize)
-    requires fit { room z ≤ length lanes.old }
-    requires row { RowAt z g start }
-    requires most { n ≤ 16 * width_of z.lanes start }
-    ensures { Deep z g start n lanes.old lanes.new }
+pub fn put_depth(row: &RowPlace, lanes: &mut [u32], n: usize)
+    requires fit { room row.now.sizes ≤ length lanes.old }
+    requires most { n ≤ 16 * width_of row.now.sizes.lanes row.now.start }
+    ensures { Deep row.now.sizes row.now.group row.now.start n lanes.old lanes.new }
 {
-    put_word(z, lanes, g, 6, start, n as u32);
+    put_word(row.sizes, lanes, row.group, 6, row.start, n as u32);
 }
 
 // Puts join k.
-pub fn put_join(z: Sizes, lanes: &mut [u32], g: usize, start: usize, k: usize, join: Join)
-    requires fit { room z ≤ length lanes.old }
-    requires row { RowAt z g start }
-    requires there { k < 16 * width_of z.lanes start }
-    ensures { JoinPut z g start k join lanes.old lanes.new }
+#[tactic(auto, unfolding(crate::specs::Stack::width_of))]
+pub fn put_join(row: &RowPlace, lanes: &mut [u32], k: usize, join: Join)
+    requires fit { room row.now.sizes ≤ length lanes.old }
+    requires there { k < 16 * width_of row.now.sizes.lanes row.now.start }
+    ensures { JoinPut row.now.sizes row.now.group row.now.start k join lanes.old lanes.new }
 {
-    let l = start + k / 16;
+    let l = row.start + k / 16;
     let s = k % 16;
-    put_word(z, lanes, g, 16 + s, l, join.branch);
-    put_word(z, lanes, g, 32 + s, l, join.line);
-    put_word(z, lanes, g, 48 + s, l, join.lanes);
+    put_word(row.sizes, lanes, row.group, 16 + s, l, join.branch);
+    put_word(row.sizes, lanes, row.group, 32 + s, l, join.line);
+    put_word(row.sizes, lanes, row.group, 48 + s, l, join.lanes);
 }

@@ -10,7 +10,7 @@ use Rattle.store.specs.declared.Sizes.{Sizes}
 use Rattle.store.specs.declared.Seen.{Seen}
 use Rattle.store.specs.declared.Deed.{Deed}
 use Rattle.store.specs.declared.Deed.TheVariants.{Quiet, Touched}
-use Rattle.store.specs.Layout.{size}
+use Rattle.store.specs.Layout.{size, numbered}
 use Rattle.store.specs.Lent.{grid_of, lane_at}
 use Rattle.store.specs.Acts.{touches_of, went_wrong}
 use Rattle.store.proofs.Grids.{the-lane-is, the-phase-is}
@@ -78,13 +78,13 @@ module _ (z : Sizes) (at : ℕ → Body) (d : Grid) (ts : List Turn) (ls cs ks l
 
   module _ (s : Seen) (who : Who) (k : Doing z at d ts ls cs ks ls' cs' g l p (Touched s)) (eg : who.group ≡ g) (el : who.lane ≡ l) (ep : who.phase ≡ p) where
     new : Mark
-    new = mark_of s.place s.cell who s.wrote
+    new = mark_of (numbered s.place) s.cell who s.wrote
 
-    mark-is : marks g l p (touches_of (Touched s)) ≡ mark_of s.place s.cell who s.wrote ∷ []
+    mark-is : marks g l p (touches_of (Touched s)) ≡ mark_of (numbered s.place) s.cell who s.wrote ∷ []
     unfolding marks
     mark-is = rw (sym eg, sym el, sym ep)
 
-    marks-are : marked z.lanes d (ts ++ (of g l ∷ [])) ≡ marked z.lanes d ts ++ (mark_of s.place s.cell who s.wrote ∷ [])
+    marks-are : marked z.lanes d (ts ++ (of g l ∷ [])) ≡ marked z.lanes d ts ++ (mark_of (numbered s.place) s.cell who s.wrote ∷ [])
     marks-are = marked-is (Touched s) k ∙ ap (λ (ms : List Mark). marked z.lanes d ts ++ ms) mark-is
 
     phase-is : (the_group (turns z.lanes d ts) who.group).phase ≡ who.phase
@@ -92,14 +92,14 @@ module _ (z : Sizes) (at : ℕ → Body) (d : Grid) (ts : List Turn) (ls cs ks l
         ap (λ (i : ℕ). (the_group (turns z.lanes d ts) i).phase) eg
         ∙ (ap (λ (e : Grid). (the_group e g).phase) (sym k.sofar.grid) ∙ (the-phase-is z at ls cs g k.group ∙ (sym k.phase ∙ sym ep)))
 
-    pub rising : Rising (marked z.lanes d ts) (mark_of s.place s.cell who s.wrote)
+    pub rising : Rising (marked z.lanes d ts) (mark_of (numbered s.place) s.cell who s.wrote)
     unfolding Rising
     rising m i same =
         let low : To (turns z.lanes d ts) m = among-all (To (turns z.lanes d ts)) m (marked z.lanes d ts) (marked-to z.lanes d ts) i in
         let h : (the_group (turns z.lanes d ts) m.by_group).phase ≡ who.phase = ap (λ (i : ℕ). (the_group (turns z.lanes d ts) i).phase) same ∙ phase-is in
         omega arith
 
-    pub keepable : who.line < 4294967296 → Keepable (layout z) s.place s.cell s.index who ks
+    pub keepable : who.line < 4294967296 → Keepable (layout z) (numbered s.place) s.cell s.index who ks
     unfolding layout
     keepable hl =
         let few = k.sized.groups in let fewer = k.sized.lanes in let hg = k.group in let hl' = k.lane in
@@ -113,14 +113,14 @@ module _ (z : Sizes) (at : ℕ → Body) (d : Grid) (ts : List Turn) (ls cs ks l
           line = hl;
         }
 
-    pub noted-kept : (ks' : List ℕ) → whole.Touched (layout z) s.place s.cell (marked z.lanes d ts) ks ks' who s.wrote None → Sofar z at d (ts ++ (of g l ∷ [])) ls' cs' ks'
+    pub noted-kept : (ks' : List ℕ) → whole.Touched (layout z) (numbered s.place) s.cell (marked z.lanes d ts) ks ks' who s.wrote None → Sofar z at d (ts ++ (of g l ∷ [])) ls' cs' ks'
     noted-kept ks' (none, kept) =
         record { grid = grid-is (Touched s) k; kept = rw marks-are kept; no_race = rw marks-are (calm_more (marked z.lanes d ts) _ k.sofar.no_race none); none_wrong = right-now (Touched s) k refl }
 
     abbrev pub AfterRace : Race → Type 0
     AfterRace r = (most : ℕ) → Shows most z.lanes d (ts ++ (of g l ∷ [])) (races (first_mark r) (second_mark r))
 
-    pub noted-raced : (ks' : List ℕ) (f : Found) → whole.Touched (layout z) s.place s.cell (marked z.lanes d ts) ks ks' who s.wrote (Some f) →
+    pub noted-raced : (ks' : List ℕ) (f : Found) → whole.Touched (layout z) (numbered s.place) s.cell (marked z.lanes d ts) ks ks' who s.wrote (Some f) →
         AfterRace (paired_of s.place s.cell f (record { who = who; wrote = s.wrote }))
     unfolding told_first
     noted-raced ks' f (among, raced, same) =

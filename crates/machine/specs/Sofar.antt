@@ -5,8 +5,9 @@ use Rattle.lanes.specs.Grid.{Grid, Turn, Mark, turns, marked}
 use Rattle.lanes.specs.Race.{Races}
 use Rattle.lanes.specs.Told.{NoneWrong, Shows, races, missing}
 use Rattle.store.specs.declared.Sizes.{Sizes}
+use Rattle.store.specs.declared.Whereabouts.{Whereabouts}
 use Rattle.store.specs.declared.Deed.{Deed}
-use Rattle.store.specs.Layout.{Sized, base, size, cells_room}
+use Rattle.store.specs.Layout.{Sized, base, size, cells_room, numbered}
 use Rattle.store.specs.Lent.{grid_of, phase_of_spec}
 use Rattle.store.specs.Acts.{Placed, Turned}
 use Rattle.touches.specs.declared.Who.{Who}
@@ -31,10 +32,10 @@ pub record Sofar (z : Sizes) (at : ℕ → Body) (d : Grid) (ts : List Turn) (ls
 
 -- The marks of the two touches of a race.
 abbrev pub first_mark : Race → Mark
-first_mark r = mark_of r.place r.cell r.first.who r.first.wrote
+first_mark r = mark_of (numbered r.place) r.cell r.first.who r.first.wrote
 
 abbrev pub second_mark : Race → Mark
-second_mark r = mark_of r.place r.cell r.second.who r.second.wrote
+second_mark r = mark_of (numbered r.place) r.cell r.second.who r.second.wrote
 
 -- After the row of turns us: all is well so far, or us shows the race or the wrong lane that is named.
 abbrev pub After : Sizes → (ℕ → Body) → Grid → List Turn → List ℕ → List ℕ → List ℕ → Outcome → Type 0
@@ -67,7 +68,7 @@ pub record IsWho (a : Who) (g l p i : ℕ) : Type 0 where
   pub line : a.line ≡ i
 
 -- The two touches in the order in which they are told.
-abbrev pub paired_of : ℕ → ℕ → Found → Found → Race
+abbrev pub paired_of : Whereabouts → ℕ → Found → Found → Race
 paired_of w c a b =
     cond (nat_lt a.who.group b.who.group || (a.who.group == b.who.group && nat_lt a.who.lane b.who.lane))
     (record { place = w; cell = c; first = a; second = b }) (record { place = w; cell = c; first = b; second = a })

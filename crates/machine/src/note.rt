@@ -6,11 +6,11 @@ ghost use Rattle.store.specs.declared.Sizes.{Sizes};
 ghost use Rattle.machine.specs.Sofar.{After, Names, Doing, paired_of, IsWho};
 
 use super::outcome::{Outcome, Race};
-use store::Deed;
+use store::{Deed, Whereabouts};
 use touches::{Found, Who, touch};
 
 // The touch of the lower group, then of the lower lane, is told first.
-fn paired(place: usize, cell: u32, a: Found, b: Found) -> Race
+fn paired(place: Whereabouts, cell: u32, a: Found, b: Found) -> Race
     ensures { result ≡ paired_of place cell a b }
 {
     if a.who.group < b.who.group || (a.who.group == b.who.group && a.who.lane < b.who.lane) {

@@ -1,12 +1,13 @@
 // What came of a turn.
 ghost use Rattle.std.specs.Prelude.{◌≡◌, true};
 
+use store::Whereabouts;
 use touches::Found;
 
-// Two touches of one cell that race, the lower group's, then the lower lane's, first. Place 0 is the field, place g + 1 is group g.
+// Two touches of one cell that race, the lower group's, then the lower lane's, first.
 #[derive(Clone, Copy)]
 pub struct Race {
-    pub place: usize,
+    pub place: Whereabouts,
     pub cell: u32,
     pub first: Found,
     pub second: Found,

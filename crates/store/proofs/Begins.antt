@@ -2,7 +2,7 @@
 use Rattle.std.proofs.Common.{◌≡◌, ℕ, suc, ◌+◌, ◌-◌, ◌*◌, ◌<◌, ◌≤◌, false, eqb, List, [], ◌++◌, length, get_or, drop, replicate, ap, ◌∙◌, arith, get_or-drop}
 use lib.Arith.{digits_lt}
 use lib.ListN.{get_or-append}
-use Rattle.std.proofs.lemmas.List.{get_or-append_right}
+use Rattle.std.proofs.lemmas.List.{get_or-append_right, get_or-replicate, length-replicate}
 use Rattle.lanes.specs.Step.{Lane, Memory}
 use Rattle.lanes.specs.Grid.{Group, Grid, begin, no_group, no_lane}
 use Rattle.store.specs.declared.Sizes.{Sizes}
@@ -13,13 +13,15 @@ use Rattle.store.proofs.Slots.{lane_is, place-lt}
 use Rattle.store.proofs.Grids.{group_is}
 
 -- a list whose front was cleared
-pub front-clear : (n : ℕ) (ys xs : List ℕ) → length ys ≡ n → ((k : ℕ) → get_or ys k 0 ≡ 0) → (i : ℕ) → i < n → get_or (ys ++ drop n xs) i 0 ≡ 0
-front-clear n ys xs e h i k = let p : i < length ys = omega arith in get_or-append ys (drop n xs) 0 i p ∙ h i
+pub front-clear : (n m : ℕ) (ys xs : List ℕ) → ys ≡ replicate m 0 → m ≡ n → (i : ℕ) → i < n → get_or (ys ++ drop n xs) i 0 ≡ 0
+front-clear n m ys xs e w i k =
+    let p : i < length ys = rw (e, length-replicate) (omega arith) in
+    get_or-append ys (drop n xs) 0 i p ∙ (ap (λ (zs : List ℕ). get_or zs i 0) e ∙ get_or-replicate m i 0 0 (omega arith))
 
-pub rest-kept : (n : ℕ) (ys xs : List ℕ) → length ys ≡ n → (i : ℕ) → n ≤ i → get_or (ys ++ drop n xs) i 0 ≡ get_or xs i 0
-rest-kept n ys xs e i k =
+pub rest-kept : (n m : ℕ) (ys xs : List ℕ) → ys ≡ replicate m 0 → m ≡ n → (i : ℕ) → n ≤ i → get_or (ys ++ drop n xs) i 0 ≡ get_or xs i 0
+rest-kept n m ys xs e w i k =
     let p : n + (i - n) ≡ i = omega arith in
-    get_or-append_right ys (drop n xs) n i 0 e k ∙ get_or-drop n xs (i - n) 0 ∙ ap (λ j. get_or xs j 0) p
+    get_or-append_right ys (drop n xs) n i 0 (ap length e ∙ length-replicate m 0 ∙ w) k ∙ get_or-drop n xs (i - n) 0 ∙ ap (λ j. get_or xs j 0) p
 
 memory-as : (a b : List ℕ) (x y : List (List ℕ)) → a ≡ b → x ≡ y → ◌≡◌ {A = Memory} (record { all = a; groups = x }) (record { all = b; groups = y })
 memory-as a b x y p q = rw (p, q)

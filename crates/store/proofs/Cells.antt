@@ -1,5 +1,7 @@
 -- Each cell has a place of its own; memory under a write of one cell.
-use Rattle.std.proofs.Common.{◌≡◌, ℕ, zero, suc, ◌+◌, ◌*◌, ◌<◌, ◌≤◌, Bool, true, false, List, [], length, get_or, set, refl, ap, arith, get_or-set_other, get_or-set_same}
+use Rattle.std.proofs.Common.{◌≡◌, ℕ, zero, suc, ◌+◌, ◌-◌, ◌*◌, ◌<◌, ◌≤◌, Bool, true, false, List, [], length, get_or, set, sym, refl, ap, subst, arith, get_or-set_other, get_or-set_same, ltb, leb, Option, MatchOption}
+use Rattle.std.specs.Bool.{then_some}
+use Rattle.std.proofs.lemmas.Bool.{ltb-true, ltb-false, leb-true, leb-false}
 use lib.Arith.{digits_lt}
 use Rattle.lanes.specs.Step.{Memory, cells, store}
 use Rattle.store.specs.declared.Sizes.{Sizes}
@@ -27,6 +29,25 @@ pub spot-lt : (z : Sizes) (w c : ℕ) → w ≤ z.groups → c < size z w → ba
 unfolding base size
 spot-lt z zero c h k = omega arith
 spot-lt z (suc g) c h k = let p : g * z.shared + c < z.groups * z.shared = digits_lt h k in omega arith
+
+-- the place of a cell, or of several, where a test says that they are there
+pub found : (z : Sizes) (w c m i : ℕ) (r : Option ℕ) → w ≤ z.groups → m ≡ size z w → i ≡ base z w + c → r ≡ then_some (ltb c m) i →
+    MatchOption r (size z w ≤ c) (λ j. (j ≡ base z w + c) × (c < size z w) × (j < cells_room z))
+found z w c m i r hw hm hi e =
+    subst (λ (x : Option ℕ). MatchOption x (size z w ≤ c) (λ j. (j ≡ base z w + c) × (c < size z w) × (j < cells_room z))) (sym e) (by (ltb c m) refl)
+  where
+    by : (b : Bool) → ltb c m ≡ b → MatchOption (then_some b i) (size z w ≤ c) (λ j. (j ≡ base z w + c) × (c < size z w) × (j < cells_room z))
+    by true t = let h : c < size z w = rw (← hm) (ltb-true c m t) in let p = spot-lt z w c hw h in (hi, h, omega arith)
+    by false t = rw (← hm) (ltb-false c m t)
+
+pub found-row : (z : Sizes) (w c n m i : ℕ) (r : Option ℕ) → w ≤ z.groups → 0 < n → m ≡ size z w → i ≡ base z w + c → r ≡ then_some (leb (c + n) m) i →
+    MatchOption r (size z w < c + n) (λ j. (j ≡ base z w + c) × (c + n ≤ size z w) × (j + n ≤ cells_room z))
+found-row z w c n m i r hw some hm hi e =
+    subst (λ (x : Option ℕ). MatchOption x (size z w < c + n) (λ j. (j ≡ base z w + c) × (c + n ≤ size z w) × (j + n ≤ cells_room z))) (sym e) (by (leb (c + n) m) refl)
+  where
+    by : (b : Bool) → leb (c + n) m ≡ b → MatchOption (then_some b i) (size z w < c + n) (λ j. (j ≡ base z w + c) × (c + n ≤ size z w) × (j + n ≤ cells_room z))
+    by true t = let h : c + n ≤ size z w = rw (← hm) (leb-true (c + n) m t) in let p = spot-lt z w (c + (n - 1)) hw (omega arith) in (hi, h, omega arith)
+    by false t = rw (← hm) (leb-false (c + n) m t)
 
 pub spot-same : (z : Sizes) (w c w' c' : ℕ) → w ≤ z.groups → w' ≤ z.groups → c < size z w → c' < size z w' → base z w + c ≡ base z w' + c' → (w ≡ w') × (c ≡ c')
 unfolding base size

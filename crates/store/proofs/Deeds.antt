@@ -5,7 +5,7 @@ use Rattle.store.specs.declared.Deed.TheVariants.{Quiet, Touched, Wrong}
 use Rattle.store.specs.declared.Todo.{Todo}
 use Rattle.store.specs.declared.Todo.TheVariants.{Put, Read, Write, Branch}
 use Rattle.store.specs.declared.Seen.{Seen}
-use Rattle.store.specs.Layout.{place_of, room, base, size, whose, cells_room}
+use Rattle.store.specs.Layout.{place_of, room, base, size, whose, numbered, cells_room}
 use Rattle.store.specs.Lent.{Lent, Only, slot_of, line_at}
 use Rattle.store.specs.Acts.{Did, Placed, SentTo}
 use Rattle.store.proofs.Slots.{only-slot, lined-twice, lined-line, slot_same, slot-other}
@@ -55,7 +55,7 @@ module _ (z : Sizes) (ls cs : List ℕ) (g l stop : ℕ) (lent : Lent z ls cs) (
   )
 
   pub done-read : (f : Bool) (k i c v x : ℕ) (s : Seen) → k < z.owns → c < size z (whose f g) → x ≡ get_or cs (base z (whose f g) + c) 0 →
-      ls' ≡ set (set ls (place_of z g (128 + k) l) x) (place_of z g 0 l) i → s.place ≡ whose f g → s.cell ≡ c → s.wrote ≡ false → Placed z (Touched s) →
+      ls' ≡ set (set ls (place_of z g (128 + k) l) x) (place_of z g 0 l) i → numbered s.place ≡ whose f g → s.cell ≡ c → s.wrote ≡ false → Placed z (Touched s) →
       Did z ls cs ls' cs g l stop (Read f k i) c v (Touched s) × Sent (Read f k i)
   done-read f k i c v x s hk hc ex el ep es ew placed = (
     record {
@@ -68,7 +68,7 @@ module _ (z : Sizes) (ls cs : List ℕ) (g l stop : ℕ) (lent : Lent z ls cs) (
   )
 
   pub done-write : (cs' : List ℕ) (f : Bool) (i c v : ℕ) (s : Seen) → c < size z (whose f g) → cs' ≡ set cs (base z (whose f g) + c) v →
-      ls' ≡ set ls (place_of z g 0 l) i → s.place ≡ whose f g → s.cell ≡ c → s.wrote ≡ true → Placed z (Touched s) → Did z ls cs ls' cs' g l stop (Write f i) c v (Touched s) × Sent (Write f i)
+      ls' ≡ set ls (place_of z g 0 l) i → numbered s.place ≡ whose f g → s.cell ≡ c → s.wrote ≡ true → Placed z (Touched s) → Did z ls cs ls' cs' g l stop (Write f i) c v (Touched s) × Sent (Write f i)
   done-write cs' f i c v s hc em el ep es ew placed = (
     record {
       lined = λ lines hs goes h. rw el (lined-line z g l lines hl ls i lent.lanes_fit goes h);

@@ -4,7 +4,7 @@ use lib.Seq.{paste}
 use borrow.Rule.Slice.PartMut.{put_mid}
 use Rattle.std.proofs.lemmas.List.Edits.{paste_none, paste_more}
 use Rattle.std.proofs.lemmas.Slice.{put_mid-paste}
-use Rattle.std.proofs.lemmas.List.{set_comm, ext_get_or}
+use Rattle.std.proofs.lemmas.List.{set_comm}
 use Rattle.store.specs.declared.Sizes.{Sizes}
 use Rattle.store.specs.Layout.{slots, place_of, room}
 use Rattle.store.specs.Rows.{slot_row}
@@ -72,8 +72,3 @@ one_more z g s l v n ls = refl
 pub row_zero : (z : Sizes) (g s l : ℕ) (v : ℕ → ℕ) (ls : List ℕ) → slot_row z g s l v 0 ls ≡ ls
 unfolding slot_row
 row_zero z g s l v ls = refl
-
-pub cells-written : (i n k : ℕ) (cs ys zs : List ℕ) → n ≡ length ys → k ≡ n → length zs ≡ n → ((j : ℕ) → j < length zs → get_or zs j 0 ≡ get_or ys j 0) → put_mid i k cs zs ≡ paste cs i ys n
-cells-written i n k cs ys zs en ek ez h =
-    let e : zs ≡ ys = ext_get_or 0 zs ys (ez ∙ en) h in
-    put_mid-paste i k cs zs ys n e (sym ek) en

@@ -8,7 +8,7 @@ use Rattle.store.specs.declared.Todo.{Todo}
 use Rattle.store.specs.declared.Todo.TheVariants.{Put, Read, Write, Branch}
 use Rattle.store.specs.declared.Deed.{Deed}
 use Rattle.store.specs.declared.Deed.TheVariants.{Quiet, Touched, Wrong}
-use Rattle.store.specs.Layout.{slots, base, size, cells_room}
+use Rattle.store.specs.Layout.{slots, base, size, cells_room, numbered}
 use Rattle.store.specs.Lent.{slot_of, line_at, own_of, lane_at, phase_of_spec, grid_of, Lined, Only}
 
 -- A branch stands at an if or at a while, and its two lines are where each of the ways goes on.
@@ -65,7 +65,7 @@ SentTo (Branch y n) q = (q ≡ y) ⊎ (q ≡ n)
 -- What was touched, and whether the lane went wrong.
 abbrev pub touches_of : Deed → List Touch
 touches_of Quiet = []
-touches_of (Touched s) = record { where_is = s.place; cell = s.cell; wrote = s.wrote } ∷ []
+touches_of (Touched s) = record { where_is = numbered s.place; cell = s.cell; wrote = s.wrote } ∷ []
 touches_of Wrong = []
 
 abbrev pub went_wrong : Deed → Bool
@@ -76,7 +76,7 @@ went_wrong Wrong = true
 -- A touch tells the place of its cell in the slice of cells.
 abbrev pub Placed : Sizes → Deed → Type 0
 Placed z Quiet = Unit {0}
-Placed z (Touched s) = (s.place ≤ z.groups) × (s.index ≡ base z s.place + s.cell) × (s.index < cells_room z) × (s.cell < size z s.place)
+Placed z (Touched s) = (numbered s.place ≤ z.groups) × (s.index ≡ base z (numbered s.place) + s.cell) × (s.index < cells_room z) × (s.cell < size z (numbered s.place))
 Placed z Wrong = Unit {0}
 
 -- The lane's turn was done: it could be; the grid is the definition's after it; what was touched are its marks; and a lane is wrong

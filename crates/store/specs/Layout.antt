@@ -9,6 +9,8 @@
 -- The slice of cells: those of group 0, of group 1, .., then the field's.
 use Rattle.std.specs.Prelude.{ℕ, zero, suc, ◌+◌, ◌*◌, ◌≤◌, Bool, true, false}
 use Rattle.store.specs.declared.Sizes.{Sizes}
+use Rattle.store.specs.declared.Whereabouts.{Whereabouts}
+use Rattle.store.specs.declared.Whereabouts.TheVariants.{Field, Group}
 
 -- Sizes in bounds.
 pub record Sized (z : Sizes) : Type 0 where
@@ -49,3 +51,8 @@ cells_room z = z.groups * z.shared + z.field
 abbrev pub whose : Bool → ℕ → ℕ
 whose true g = 0
 whose false g = suc g
+
+-- Whereabouts as a number.
+abbrev pub numbered : Whereabouts → ℕ
+numbered Field = 0
+numbered (Group g) = suc g

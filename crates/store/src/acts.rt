@@ -1,21 +1,25 @@
 // What one lane does.
 ghost use Rattle.std.specs.Prelude.{◌≡◌, ℕ, ◌+◌, ◌<◌, ◌≤◌, ◌⊎◌, if◌then◌else◌, nat_eq};
-ghost use Rattle.store.specs.Layout.{whose};
+ghost use Rattle.store.specs.Layout.{whose, numbered};
 ghost use Rattle.store.specs.Lent.{Lent, line_at, slot_of};
 ghost use Rattle.store.specs.Acts.{TodoFits, Did, SentTo};
 
 use crate::words::{go_wrong, put_own, spot, stand};
-use crate::{Deed, Seen, Sizes, Todo};
+use crate::{Deed, Seen, Sizes, Todo, Whereabouts};
 
-// Place 0 is the field, place g + 1 is group g.
-pub fn owner(field: bool, g: usize) -> usize
-    requires { g < 1024 }
-    ensures { result ≡ whose field g }
+// Where the cells of the field lie, or of group g.
+pub fn owner(field: bool, g: usize) -> Whereabouts
+    ensures { numbered result ≡ whose field g }
 {
-    if field { 0 } else { g + 1 }
+    if field {
+        Whereabouts::Field
+    } else {
+        Whereabouts::Group(g)
+    }
 }
 
-fn chosen(c: u32, yes: u32, no: u32) -> u32
+// Where a branch goes on.
+pub fn chosen(c: u32, yes: u32, no: u32) -> u32
     ensures { result ≡ (if nat_eq c 0 then no else yes) }
 {
     if c == 0 { no } else { yes }

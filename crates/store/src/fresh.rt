@@ -13,19 +13,11 @@ pub fn room_of(z: Sizes) -> usize
     z.groups * (128 + z.owns) * z.lanes
 }
 
-fn clear(s: &mut [u32])
-    ensures { (k : ℕ) → slice_index s.new k ≡ 0 }
-{
-    for x in s.iter_mut() {
-        *x = 0;
-    }
-}
-
 // Each lane at line 0 with own numbers 0, each group in phase 0 with cells 0, and the field as lent, whatever the rest held.
 pub fn start(z: Sizes, lanes: &mut [u32], cells: &mut [u32])
     requires { Lent z lanes.old cells.old }
     ensures { Started z lanes.old cells.old lanes.new cells.new }
 {
-    clear(&mut lanes[..room_of(z)]);
-    clear(&mut cells[..z.groups * z.shared]);
+    lanes[..room_of(z)].fill(0);
+    cells[..z.groups * z.shared].fill(0);
 }

@@ -8,7 +8,6 @@ use crate::Sizes;
 use crate::words::{line_of, place, stand};
 
 // The place of a group's own word: it lies at the first lane, and there is one.
-#[tactic(auto, unfolding(crate::specs::Layout::place_of, crate::specs::Layout::room))]
 pub fn first_place(z: Sizes, g: usize, s: usize) -> usize
     requires group { g < z.groups }
     requires slot { s < slots z }
@@ -16,7 +15,8 @@ pub fn first_place(z: Sizes, g: usize, s: usize) -> usize
     ensures within { result < room z }
     ensures some { 0 < z.lanes }
 {
-    (g * (128 + z.owns) + s) * z.lanes
+    prove!(z.lanes > 0);
+    place(z, g, s, 0)
 }
 
 // The group's phase: how many barriers it has passed.

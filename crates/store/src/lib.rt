@@ -1,4 +1,6 @@
 // The grid of lanes and cells in lent slices. The definitions in specs/ say which grid the slices stand for.
+// Sizes, slices, group and lane are passed apart: two slices of one struct can't be lent to be written at once, and a struct for a
+// lane's place would be made anew for each lane of a row that a loop goes over.
 #![tactic(auto)]
 
 mod acts;
@@ -54,16 +56,24 @@ pub enum Todo {
     Branch { yes: u32, no: u32 },
 }
 
-// A touch: place 0 is the field, place g + 1 is group g; the index is the cell's in the slice of cells.
+// Where a cell lies: in the field, or in a group.
+#[derive(Clone, Copy)]
+pub enum Whereabouts {
+    Field,
+    Group(usize),
+}
+
+// A touch; the index is the cell's in the slice of cells.
 #[derive(Clone, Copy)]
 pub struct Seen {
-    pub place: usize,
+    pub place: Whereabouts,
     pub cell: u32,
     pub wrote: bool,
     pub index: usize,
 }
 
 // What a lane did: it touched nothing, or a cell, or went wrong as the cell isn't there.
+// Kept an enum of its own: a lane that goes wrong is told of like any other, and no call fails by it.
 #[derive(Clone, Copy)]
 pub enum Deed {
     Quiet,

@@ -5,31 +5,15 @@ ghost use Rattle.store.specs.Layout.{slots, room};
 ghost use Rattle.store.specs.Rows.{slot_row, put_row_spec};
 
 use crate::Sizes;
+use crate::acts::chosen;
 use crate::words::place;
-
-fn fill(s: &mut [u32], v: u32)
-    ensures { (k : ℕ) → k < length s.new → slice_index s.new k ≡ v }
-{
-    for i in 0..s.len() {
-        s[i] = v;
-    }
-}
-
-fn copy(to: &mut [u32], from: &[u32])
-    requires { length to.old ≡ length from.now }
-    ensures { (k : ℕ) → k < length to.new → slice_index to.new k ≡ slice_index from.now k }
-{
-    for i in 0..to.len().min(from.len()) {
-        to[i] = from[i];
-    }
-}
 
 fn choose(to: &mut [u32], from: &[u32], yes: u32, no: u32)
     requires { length to.old ≡ length from.now }
     ensures { (k : ℕ) → k < length to.new → slice_index to.new k ≡ (if nat_eq (slice_index from.now k) 0 then no else yes) }
 {
-    for i in 0..to.len().min(from.len()) {
-        to[i] = if from[i] == 0 { no } else { yes };
+    for (i, x) in from.iter().enumerate() {
+        to[i] = chosen(*x, yes, no);
     }
 }
 
@@ -38,7 +22,7 @@ pub fn copy_cells(cells: &mut [u32], i: usize, ys: &[u32])
     requires { i + length ys.now ≤ length cells.old }
     ensures { cells.new ≡ paste cells.old i ys.now (length ys.now) }
 {
-    copy(&mut cells[i..i + ys.len()], ys);
+    cells[i..i + ys.len()].copy_from_slice(ys);
 }
 
 // Lanes of group g from lane l on, one for each of the numbers: slot s of each is its number.
@@ -51,7 +35,7 @@ fn copy_row(z: Sizes, lanes: &mut [u32], g: usize, s: usize, l: usize, xs: &[u32
     ensures { lanes.new ≡ slot_row z g s l (λ i. slice_index xs.now i) (length xs.now) lanes.old }
 {
     let a = place(z, g, s, l);
-    copy(&mut lanes[a..a + xs.len()], xs);
+    lanes[a..a + xs.len()].copy_from_slice(xs);
 }
 
 // Slot s of the n lanes of group g from lane l on is v.
@@ -64,7 +48,7 @@ pub fn fill_row(z: Sizes, lanes: &mut [u32], g: usize, s: usize, l: usize, n: us
     ensures { lanes.new ≡ slot_row z g s l (λ _. v) n lanes.old }
 {
     let a = place(z, g, s, l);
-    fill(&mut lanes[a..a + n], v);
+    lanes[a..a + n].fill(v);
 }
 
 // Lanes of group g from lane l on, one for each of the numbers: each stands at `no` if its number is 0, else at `yes`.

@@ -28,22 +28,17 @@ pub fn own_base(z: Sizes, g: usize, l: usize) -> usize
     (g * (128 + z.owns) + 128) * z.lanes + l
 }
 
-// The place of a cell of the field, or of group g, if it is there.
-#[tactic(auto, unfolding(crate::specs::Layout::size, crate::specs::Layout::base))]
-pub fn spot(z: Sizes, field: bool, g: usize, c: u32) -> Option<usize>
-    requires group { g < z.groups }
-    ensures { MatchOption result (size z (whose field g) ≤ c) (λ i. (i ≡ base z (whose field g) + c) × (c < size z (whose field g)) × (i < cells_room z)) }
+// Where the cells of the field begin, or of group g.
+#[tactic(auto, unfolding(crate::specs::Layout::base))]
+fn first_cell(z: Sizes, field: bool, g: usize) -> usize
+    requires { g < z.groups }
+    ensures is { result ≡ base z (whose field g) }
+    ensures few { result ≤ 16777216 }
 {
     if field {
-        if (c as usize) < z.field {
-            Some(z.groups * z.shared + c as usize)
-        } else {
-            None
-        }
-    } else if (c as usize) < z.shared {
-        Some(g * z.shared + c as usize)
+        z.groups * z.shared
     } else {
-        None
+        g * z.shared
     }
 }
 
@@ -55,20 +50,23 @@ fn many_cells(z: Sizes, field: bool, g: usize) -> usize
     if field { z.field } else { z.shared }
 }
 
+// The place of a cell of the field, or of group g, if it is there.
+pub fn spot(z: Sizes, field: bool, g: usize, c: u32) -> Option<usize>
+    requires group { g < z.groups }
+    ensures { MatchOption result (size z (whose field g) ≤ c) (λ i. (i ≡ base z (whose field g) + c) × (c < size z (whose field g)) × (i < cells_room z)) }
+{
+    let i = first_cell(z, field, g) + c as usize;
+    ((c as usize) < many_cells(z, field, g)).then_some(i)
+}
+
 // The place of n neighbouring cells of the field, or of group g, from cell c on, if all of them are there.
 pub fn spot_row(z: Sizes, field: bool, g: usize, c: u32, n: usize) -> Option<usize>
     requires group { g < z.groups }
     requires few { (0 < n) × (n ≤ 1024) }
     ensures { MatchOption result (size z (whose field g) < c + n) (λ i. (i ≡ base z (whose field g) + c) × (c + n ≤ size z (whose field g)) × (i + n ≤ cells_room z)) }
 {
-    let Some(i) = spot(z, field, g, c) else {
-        return None;
-    };
-    if c as usize + n <= many_cells(z, field, g) {
-        Some(i)
-    } else {
-        None
-    }
+    let i = spot(z, field, g, c)?;
+    (c as usize + n <= many_cells(z, field, g)).then_some(i)
 }
 
 // The line at which the lane stands.

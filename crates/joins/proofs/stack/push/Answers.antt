@@ -6,9 +6,9 @@ use Rattle.joins.proofs.stack.push.Goals as goal
 
 pub returns : goal.returns
 returns c =
-    let below = c.if-n-width.false in let w : c.width.result ≡ width_of c.args.z.lanes c.args.start = rw (← c.z.view_is) c.width.ensures.is in let d = c.depth-n.ensures.is in
+    let below = c.if-n-most.false in let w = c.most.ensures in let d = c.depth-n.ensures.is in
     record {
-      is = λ h. pushed c.args.z c.args.g c.args.start c.args.lanes.now c.depth-n.result c.args.join c.put_join.new.lanes c.put_depth.new.lanes d (omega arith) c.put_join.ensures c.put_depth.ensures;
+      is = λ h. pushed c.args.row.now.sizes c.args.row.now.group c.args.row.now.start c.args.lanes.now c.depth-n.result c.args.join c.put_join.new.lanes c.put_depth.new.lanes d (omega arith) c.put_join.ensures c.put_depth.ensures;
       refused = λ h. absurd (omega arith);
-      frame = stacked-both c.args.z c.args.g c.args.start c.args.lanes.now c.put_join.new.lanes c.put_depth.new.lanes c.put_join.ensures.frame c.put_depth.ensures.frame;
+      frame = stacked-both c.args.row.now.sizes c.args.row.now.group c.args.row.now.start c.args.lanes.now c.put_join.new.lanes c.put_depth.new.lanes c.put_join.ensures.frame c.put_depth.ensures.frame;
     }

@@ -1,6 +1,7 @@
 use Rattle.std.proofs.Common.{◌<◌, sym, refl, subst, arith}
 use Rattle.lanes.specs.Grid.{marked}
 use Rattle.store.specs.declared.Deed.{Deed}
+use Rattle.store.specs.Layout.{numbered}
 use Rattle.machine.specs.Sofar.{layout, Doing}
 use Rattle.machine.proofs.Noted.{AfterRace, noted-quiet, noted-wrong, noted-kept, noted-raced, keepable, rising}
 use Rattle.machine.proofs.note.note.Goals as goal
@@ -24,7 +25,7 @@ returns-in-None c = record {
       let k' = subst (λ (x : Deed). Doing z at d ts ls cs ks ls' cs' g l p x) c.in-Touched.is k in
       let hl : who.line < 4294967296 = let e = is.line in let f = c.ranges.line.fits in omega arith in
       noted-kept z at d ts ls cs ks ls' cs' g l p s who k' is.group is.lane is.phase c.touch.new.kept
-      (c.in-None.ensures.exact (layout z) s.place s.cell (marked z.lanes d ts)
+      (c.in-None.ensures.exact (layout z) (numbered s.place) s.cell (marked z.lanes d ts)
       (keepable z at d ts ls cs ks ls' cs' g l p s who k' is.group is.lane is.phase hl) k.sofar.kept (rising z at d ts ls cs ks ls' cs' g l p s who k' is.group is.lane is.phase));
   names = tt;
 }
@@ -39,7 +40,7 @@ returns-in-Some c = record {
       let hl : who.line < 4294967296 = let e = is.line in let f = c.ranges.line.fits in omega arith in
       subst (AfterRace z at d ts ls cs ks ls' cs' g l p s who k' is.group is.lane is.phase) (sym c.paired.ensures)
       (noted-raced z at d ts ls cs ks ls' cs' g l p s who k' is.group is.lane is.phase c.touch.new.kept c.in-Some.found
-      (c.in-Some.ensures.exact (layout z) s.place s.cell (marked z.lanes d ts)
+      (c.in-Some.ensures.exact (layout z) (numbered s.place) s.cell (marked z.lanes d ts)
       (keepable z at d ts ls cs ks ls' cs' g l p s who k' is.group is.lane is.phase hl) k.sofar.kept (rising z at d ts ls cs ks ls' cs' g l p s who k' is.group is.lane is.phase)));
   names = tt;
 }

@@ -21,8 +21,8 @@ unfolding depth_of
 depth-most z ls g start = min-le_right (slot_of z ls g 6 start) (16 * width_of z.lanes start)
 
 -- the lane that a join lies in
-pub lane-there : (z : Sizes) (start k : ℕ) → k < 16 * width_of z.lanes start → start + k / 16 < z.lanes
-lane-there z start k h = let a = width-there z start in omega arith
+pub lane_there : (z : Sizes) (start k : ℕ) → k < 16 * width_of z.lanes start → start + k / 16 < z.lanes
+lane_there z start k h = let a = width-there z start in omega arith
 
 pub lane-near : (z : Sizes) (start k : ℕ) → k < 16 * width_of z.lanes start → start + k / 16 < start + 32
 lane-near z start k h = let a = width-most z start in omega arith
@@ -62,7 +62,7 @@ stack_same z ls ls' g start row h =
     (depth_same z ls ls' g start (h 6 start (omega arith) (omega arith) (omega arith) (omega arith) row.lane))
     (λ k l.
     let m = depth-most z ls g start in
-    let a = lane-there z start k (omega arith) in let b = lane-near z start k (omega arith) in
+    let a = lane_there z start k (omega arith) in let b = lane-near z start k (omega arith) in
     let here : (s : ℕ) → 6 ≤ s → s < 128 → slot_of z ls' g s (start + k / 16) ≡ slot_of z ls g s (start + k / 16) = λ s p q. h s (start + k / 16) p q (omega arith) b a in
     join-same z ls ls' g start k (here (16 + k % 16) (omega arith) (omega arith)) (here (32 + k % 16) (omega arith) (omega arith)) (here (48 + k % 16) (omega arith) (omega arith)))
 

@@ -8,14 +8,14 @@ use Rattle.joins.specs.declared.Join.{Join}
 use Rattle.joins.specs.Stack.{RowAt, width_of, join_at, depth_of, down_from, stack_of, lost, leaves, Stacked}
 use Rattle.joins.specs.Words.{Deep, JoinPut}
 use Rattle.joins.proofs.Stacklists.{down-none, down-more, down-lost, down_out, down-length, down-split, leaves-past}
-use Rattle.joins.proofs.Stackframes.{lane-there, lane-near, join_is, join-words, join-same, depth_same, depth_is, stack_is, depth-most, stacked-none, stacked-both, stacked-aside}
+use Rattle.joins.proofs.Stackframes.{lane_there, lane-near, join_is, join-words, join-same, depth_same, depth_is, stack_is, depth-most, stacked-none, stacked-both, stacked-aside}
 
 pub deep : (z : Sizes) (g start n : ℕ) (ls ls' : List ℕ) → RowAt z g start → n ≤ 16 * width_of z.lanes start → Aside z g 6 start n ls ls' → Deep z g start n ls ls'
 deep z g start n ls ls' row most a = record {
   frame = stacked-aside z g start row 6 start n ls ls' (omega arith) (omega arith) (omega arith) (omega arith) a;
   depth = depth_is z ls' g start n most a.here;
   same = λ k h.
-      let there = lane-there z start k h in
+      let there = lane_there z start k h in
       let kept : (s : ℕ) → s < 128 → (s ≡ 6 → ⊥) → slot_of z ls' g s (start + k / 16) ≡ slot_of z ls g s (start + k / 16) = λ s p q. a.rest g s (start + k / 16) (omega arith) there (λ x y w. q y) in
       join-same z ls ls' g start k (kept (16 + k % 16) (omega arith) (λ e. omega arith)) (kept (32 + k % 16) (omega arith) (λ e. omega arith)) (kept (48 + k % 16) (omega arith) (λ e. omega arith));
 }
@@ -39,7 +39,7 @@ module _ (z : Sizes) (g start k : ℕ) (j : Join) (ls ls₁ ls₂ ls₃ : List �
 
   here_put : join_at z ls₃ g start k ≡ j
   here_put =
-      let there = lane-there z start k h in
+      let there = lane_there z start k h in
       join-words z ls₃ g start k j
       (c.rest g (16 + k % 16) (start + k / 16) (omega arith) there (λ _ x _. omega arith) ∙ (b.rest g (16 + k % 16) (start + k / 16) (omega arith) there (λ _ x _. omega arith) ∙ a.here))
       (c.rest g (32 + k % 16) (start + k / 16) (omega arith) there (λ _ x _. omega arith) ∙ b.here)
@@ -47,7 +47,7 @@ module _ (z : Sizes) (g start k : ℕ) (j : Join) (ls ls₁ ls₂ ls₃ : List �
 
   same-put : (i : ℕ) → i < 16 * width_of z.lanes start → (i ≡ k → ⊥) → join_at z ls₃ g start i ≡ join_at z ls g start i
   same-put i hi ne =
-      let there = lane-there z start i hi in
+      let there = lane_there z start i hi in
       let no : i % 16 ≡ k % 16 → start + i / 16 ≡ start + k / 16 → ⊥ = λ p q. ne (omega arith) in
       join-same z ls ls₃ g start i
       (apart (16 + i % 16) (start + i / 16) (omega arith) there (λ p q. no (omega arith) q) (λ p q. omega arith) (λ p q. omega arith))

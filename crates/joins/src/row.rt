@@ -46,7 +46,7 @@ pub fn depth(row: &RowPlace, lanes: &[u32]) -> usize
 }
 
 // Join k, counted from the oldest.
-#[tactic(auto, unfolding(crate::specs::Stack::width_of))]
+#[tactic(auto, using(crate::proofs::Stackframes::lane_there), unfolding(crate::specs::Stack::width_of))]
 pub fn join_of(row: &RowPlace, lanes: &[u32], k: usize) -> Join
     requires fit { room row.now.sizes ≤ length lanes.now }
     requires there { k < 16 * width_of row.now.sizes.lanes row.now.start }
@@ -71,7 +71,7 @@ pub fn put_depth(row: &RowPlace, lanes: &mut [u32], n: usize)
 }
 
 // Puts join k.
-#[tactic(auto, unfolding(crate::specs::Stack::width_of))]
+#[tactic(auto, using(crate::proofs::Stackframes::lane_there), unfolding(crate::specs::Stack::width_of))]
 pub fn put_join(row: &RowPlace, lanes: &mut [u32], k: usize, join: Join)
     requires fit { room row.now.sizes ≤ length lanes.old }
     requires there { k < 16 * width_of row.now.sizes.lanes row.now.start }

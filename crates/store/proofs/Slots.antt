@@ -36,13 +36,13 @@ own_range z g k l width hg hk hl hw =
     let q = own-place z g k l i in
     omega arith
 
-pub own-slot : (z : Sizes) (ls : List ℕ) (g l k : ℕ) → k < z.owns → get_or (own_of z ls g l) k 0 ≡ slot_of z ls g (128 + k) l
+pub own_slot : (z : Sizes) (ls : List ℕ) (g l k : ℕ) → k < z.owns → get_or (own_of z ls g l) k 0 ≡ slot_of z ls g (128 + k) l
 unfolding own_of
-own-slot z ls g l k h = upto-at 0 (λ j. slot_of z ls g (128 + j) l) z.owns k h
+own_slot z ls g l k h = upto-at 0 (λ j. slot_of z ls g (128 + j) l) z.owns k h
 
 pub own_at : (z : Sizes) (ls : List ℕ) (g l i k : ℕ) → k < z.owns → get_or (own_of z ls g (l + i)) k 0 ≡ get_or ls (place_of z g 128 l + k * z.lanes + i) 0
 unfolding slot_of
-own_at z ls g l i k h = own-slot z ls g (l + i) k h ∙ ap (λ p. get_or ls p 0) (own-place z g k l i)
+own_at z ls g l i k h = own_slot z ls g (l + i) k h ∙ ap (λ p. get_or ls p 0) (own-place z g k l i)
 
 -- slots after a write to one
 module _ (z : Sizes) (g s l : ℕ) (hs : s < slots z) (hl : l < z.lanes) where

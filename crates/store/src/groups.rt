@@ -1,4 +1,6 @@
 // The words of a group, and that it goes on.
+#![tactic(auto, unfolding(crate::specs::Lent::slot_of, crate::specs::Lent::phase_of_spec))]
+
 ghost use Rattle.std.specs.Prelude.{◌≡◌, ℕ, ◌+◌, ◌<◌, ◌≤◌, List, length};
 ghost use Rattle.store.specs.Layout.{slots, place_of, room};
 ghost use Rattle.store.specs.Lent.{slot_of, phase_of_spec, Lined, Aside, Raised};

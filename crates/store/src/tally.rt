@@ -48,6 +48,7 @@ pub fn ended_of(z: Sizes, lanes: &[u32], g: usize) -> u32
 }
 
 // Puts both counts. Nothing else changes.
+#[tactic(auto, using(crate::proofs::Counts::tallied))]
 pub fn put_counts(z: Sizes, lanes: &mut [u32], g: usize, waiting: u32, ended: u32)
     requires fit { room z ≤ length lanes.old }
     requires group { g < z.groups }

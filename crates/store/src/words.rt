@@ -1,4 +1,6 @@
 // The words of a lane and the places of cells. Each function reads or writes one place, or two.
+#![tactic(auto, unfolding(crate::specs::Layout::place_of, crate::specs::Layout::base, crate::specs::Layout::size, crate::specs::Lent::slot_of, crate::specs::Lent::line_at))]
+
 ghost use Rattle.std.specs.Prelude.{◌≡◌, ℕ, ◌+◌, ◌*◌, ◌<◌, ◌≤◌, Bool, true, List, length, MatchOption, ◌==◌, slice_index, slice_set};
 ghost use Rattle.lanes.specs.Syntax.{Body};
 ghost use Rattle.store.specs.Layout.{slots, place_of, room, base, size, whose, cells_room};
@@ -7,7 +9,6 @@ ghost use Rattle.store.specs.Lent.{slot_of, line_at, own_of, Settled};
 use crate::Sizes;
 
 // The place of slot s of lane l of group g.
-#[tactic(auto, unfolding(crate::specs::Layout::place_of))]
 pub fn place(z: Sizes, g: usize, s: usize, l: usize) -> usize
     requires group { g < z.groups }
     requires slot { s < slots z }
@@ -19,7 +20,6 @@ pub fn place(z: Sizes, g: usize, s: usize, l: usize) -> usize
 }
 
 // Where own numbers lie: own number k of lane l + i of group g is at this place, k times the lanes and i further.
-#[tactic(auto, unfolding(crate::specs::Layout::place_of))]
 pub fn own_base(z: Sizes, g: usize, l: usize) -> usize
     requires group { g < z.groups }
     requires lane { l < z.lanes }
@@ -29,7 +29,6 @@ pub fn own_base(z: Sizes, g: usize, l: usize) -> usize
 }
 
 // Where the cells of the field begin, or of group g.
-#[tactic(auto, unfolding(crate::specs::Layout::base))]
 fn first_cell(z: Sizes, field: bool, g: usize) -> usize
     requires { g < z.groups }
     ensures is { result ≡ base z (whose field g) }
@@ -43,7 +42,6 @@ fn first_cell(z: Sizes, field: bool, g: usize) -> usize
 }
 
 // How many cells the field has, or a group.
-#[tactic(auto, unfolding(crate::specs::Layout::size))]
 fn many_cells(z: Sizes, field: bool, g: usize) -> usize
     ensures { result ≡ size z (whose field g) }
 {
@@ -80,6 +78,7 @@ pub fn line_of(z: Sizes, lanes: &[u32], g: usize, l: usize) -> u32
 }
 
 // Its own number k.
+#[tactic(auto, using(crate::proofs::Slots::own_slot), unfolding(crate::specs::Lent::slot_of))]
 pub fn own_of(z: Sizes, lanes: &[u32], g: usize, l: usize, k: usize) -> u32
     requires fit { room z ≤ length lanes.now }
     requires group { g < z.groups }

@@ -1,5 +1,5 @@
-use Rattle.std.proofs.Common.{sym, arith}
-use Rattle.joins.proofs.Stackframes.{lane_there, join-words}
+use Rattle.std.proofs.Common.{sym}
+use Rattle.joins.proofs.Stackframes.{join-words}
 use Rattle.joins.proofs.row.join_of.Goals as goal
 
 pub returns : goal.returns

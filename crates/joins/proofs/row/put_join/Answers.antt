@@ -1,5 +1,3 @@
-use Rattle.std.proofs.Common.{sym, arith}
-use Rattle.joins.proofs.Stackframes.{lane_there}
 use Rattle.joins.proofs.Stackmoves.{join-put}
 use Rattle.joins.proofs.row.put_join.Goals as goal
 

@@ -1,5 +1,4 @@
-use Rattle.std.proofs.Common.{◌≡◌, arith}
-use Rattle.joins.specs.Stack.{width_of}
+use Rattle.std.proofs.Common.{arith}
 use Rattle.joins.proofs.Stackframes.{stacked-both}
 use Rattle.joins.proofs.Stackmoves.{pushed}
 use Rattle.joins.proofs.stack.push.Goals as goal

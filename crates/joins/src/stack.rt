@@ -33,7 +33,8 @@ pub fn push(row: &RowPlace, lanes: &mut [u32], join: Join)
     put_depth(row, lanes, n + 1);
 }
 
-// Takes join k out of n: those above it move down.
+// Takes join k out of n: those above it move down. Kept as a loop over places: a join is three words in slots apart, and joins are no
+// slice that could be moved as a whole.
 fn take_out(row: &RowPlace, lanes: &mut [u32], k: usize, n: usize)
     requires fit { room row.now.sizes ≤ length lanes.old }
     requires there { k < n }
@@ -65,14 +66,5 @@ pub fn leave(row: &RowPlace, lanes: &mut [u32], k: usize, mask: u32)
         take_out(row, lanes, k, n);
         return;
     }
-    put_join(
-        row,
-        lanes,
-        k,
-        Join {
-            branch: old.branch,
-            line: old.line,
-            lanes: left,
-        },
-    );
+    put_join(row, lanes, k, Join { lanes: left, ..old });
 }

@@ -1,12 +1,15 @@
 -- What a plan gives: slices that are long enough, and a program to start.
-use Rattle.std.proofs.Common.{◌≡◌, ℕ, ◌+◌, ◌-◌, ◌*◌, ◌≤◌, List, length, get_or, take, drop, sym, ap, ◌∙◌, subst, inl, inr, not-suc-le-zero, mul_right_comm, arith, length-drop}
+use Rattle.std.proofs.Common.{◌≡◌, ℕ, ◌+◌, ◌-◌, ◌*◌, ◌≤◌, List, Ok, Err, Result, length, get_or, take, drop, sym, refl, ap, ◌∙◌, subst, inl, inr, not-suc-le-zero, mul_right_comm, arith, length-drop}
 use Rattle.std.proofs.lemmas.List.{get_or-take, get_or-drop, length-take-le}
+use Rattle.std.specs.Result.{IsOk}
 use Rattle.lanes.specs.Syntax.{Program}
 use Rattle.lanes.specs.Grid.{Grid, Turn, of, release, begin}
 use Rattle.lanes.specs.Told.{Shows}
 use Rattle.lanes.specs.Told as meaning
 use Rattle.grammar.specs.Taken.{Taken}
 use Rattle.formats.specs.Meaning.{meant}
+use Rattle.formats.specs.Printed.{Prints}
+use Rattle.formats.specs.declared.refusal.Refusal.{Refusal}
 use Rattle.formats.specs.declared.sizes.Room.{Room}
 use Rattle.formats.specs.declared.told.Told.{Told}
 use Rattle.store.specs.declared.Sizes.{Sizes}
@@ -83,6 +86,11 @@ module _ (text bytes : List ℕ) (room : Room) (p : Plan) (pl : Plans text bytes
 
   pub printed-there : (n : ℕ) → n ≡ p.sizes.field → 10 * n + 256 ≤ room.printed
   printed-there n e = let f : p.sizes.field ≡ pl.header.cells = ap (λ (q : Plan). q.sizes.field) pl.plan in omega (arith, pl.printed_fit)
+
+-- what is lent for print is long enough, so it is printed
+pub printed-ok : (room : ℕ) (ws before after : List ℕ) (r : Result ℕ Refusal) → Prints room ws before after r → room ≤ length before → IsOk r
+printed-ok room ws before after (Ok n) p h = refl
+printed-ok room ws before after (Err e) p h = absurd (omega (arith, p.0))
 
 -- what is printed means what the machine's row of turns showed
 pub told-right : (granted : ℕ) (q : Program) (groups n : ℕ) (field cs : List ℕ) (v : Verdict) (told : Told) (ts : List Turn) → 1 ≤ n → (OnePlace v → meant told cs ≡ told_of v cs) →

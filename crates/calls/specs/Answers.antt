@@ -1,5 +1,6 @@
 -- What a call answers, and what the lent slices then hold.
 use Rattle.std.specs.Prelude.{◌≡◌, ℕ, List, length, Ok, Err, Result}
+use Rattle.std.specs.Borrow.{MutBor}
 use Rattle.lanes.specs.Syntax.{Program}
 use Rattle.grammar.specs.Taken.{Taken}
 use Rattle.formats.specs.declared.sizes.Room.{Room}
@@ -9,6 +10,7 @@ use Rattle.formats.specs.Printed.{printed}
 use Rattle.formats.specs.Wrote.{Wrote}
 use Rattle.store.specs.Lent.{field_of}
 use Rattle.calls.specs.declared.answer.Answer.{Answer}
+use Rattle.calls.specs.declared.memory.Memory.{Memory}
 use Rattle.calls.specs.declared.plan.Plan.{Plan}
 use Rattle.calls.specs.declared.plan.Refused.{Refused}
 use Rattle.calls.specs.Judge.{Judged}
@@ -21,6 +23,23 @@ pub record Slices : Type 0 where
   pub cells : List ℕ
   pub touches : List ℕ
   pub printed : List ℕ
+
+-- What the lent slices hold.
+abbrev pub slices_of : Memory → Slices
+slices_of m = record { steps = m.steps.now; lanes = m.lanes.now; cells = m.cells.now; touches = m.marks.now; printed = m.printed.now }
+
+-- It is the same slice that is lent, as long as it was.
+pub record SameSlice (before after : MutBor (List ℕ)) : Type 0 where
+  pub reference : after.ghost_name ≡ before.ghost_name
+  pub size : length after.now ≡ length before.now
+
+-- It is the same five slices that are lent.
+pub record SameLent (before after : Memory) : Type 0 where
+  pub steps : SameSlice before.steps after.steps
+  pub lanes : SameSlice before.lanes after.lanes
+  pub cells : SameSlice before.cells after.cells
+  pub marks : SameSlice before.marks after.marks
+  pub printed : SameSlice before.printed after.printed
 
 abbrev pub room_of : Slices → Room
 room_of s = record { steps = length s.steps; lanes = length s.lanes; cells = length s.cells; touches = length s.touches; printed = length s.printed }

@@ -1,5 +1,5 @@
 -- A text, a field's bytes and lent slices are taken together, or refused: the text before the field, and the field before slices that are too short.
-use Rattle.std.specs.Prelude.{◌≡◌, ℕ, ◌+◌, ◌*◌, ◌≤◌, List, Ok, Err, Result}
+use Rattle.std.specs.Prelude.{◌≡◌, ℕ, ◌+◌, ◌*◌, ◌≤◌, List, ◌++◌, Ok, Err, Result, codes, decimal}
 use Rattle.grammar.specs.Refusals as text
 use Rattle.grammar.specs.declared.refusals.Refusal as texts
 use Rattle.reader.specs.declared.texts.Shape.{Shape}
@@ -24,6 +24,10 @@ refused_number (Rest e) = rest.number_of e
 abbrev pub refused_place : Refused → ℕ
 refused_place (Text e) = text.place_of e
 refused_place (Rest e) = rest.place_of e
+
+-- What a person reads of a refusal: its printed line, without the byte 10 at its end.
+abbrev pub refused_words : Refused → List ℕ
+refused_words r = (codes "refused " ++ decimal (refused_number r)) ++ (codes " at " ++ decimal (refused_place r))
 
 -- What the text and the field ask for.
 abbrev pub asked : Shape → Header → sizes.Shape

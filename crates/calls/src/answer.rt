@@ -3,13 +3,13 @@ ghost use Rattle.std.specs.Prelude.{◌≡◌, ℕ, ◌≤◌, length};
 ghost use Rattle.lanes.specs.Grid.{Grid};
 ghost use Rattle.store.specs.Layout.{cells_room};
 ghost use Rattle.store.specs.Lent.{field_of};
-ghost use Rattle.calls.specs.Answers.{Answered, Slices};
+ghost use Rattle.calls.specs.Answers.{Answered, SameLent, slices_of};
 
 use crate::judge::judge;
-use crate::plan::{Plan, Refused, make_plan};
+use crate::memory::Memory;
+use crate::plan::{Refused, make_plan};
 use crate::told::told_by;
 use formats::print::print_told;
-use formats::sizes::Room;
 use formats::told::Told;
 use machine::schedule::Scheduler;
 use machine::verdict::Verdict;
@@ -37,40 +37,17 @@ pub fn answer_by<S: Scheduler>(
     s: &mut S,
     text: &[u8],
     bytes: &[u8],
-    steps: &mut [u32],
-    lanes: &mut [u32],
-    cells: &mut [u32],
-    marks: &mut [u64],
-    printed: &mut [u8],
+    lent: &mut Memory<'_>,
 ) -> Result<Answer, Refused>
     requires { (n : ℕ) (d : Grid) → S.Scheduler.knows s.old n d }
-    ensures { Answered text.now bytes.now (record { steps = steps.entry.now; lanes = lanes.old; cells = cells.old; touches = marks.old; printed = printed.old }) (record { steps = steps.exit.now; lanes = lanes.new; cells = cells.new; touches = marks.new; printed = printed.new }) result }
+    ensures same { SameLent lent.old lent.new }
+    ensures answered { Answered text.now bytes.now (slices_of lent.old) (slices_of lent.new) result }
 {
-    let room = Room {
-        steps: steps.len(),
-        lanes: lanes.len(),
-        cells: cells.len(),
-        touches: marks.len(),
-        printed: printed.len(),
-    };
-    let plan = match make_plan(text, bytes, room) {
-        Ok(plan) => plan,
-        Err(why) => return Err(why),
-    };
-    let verdict = judge(
-        s,
-        text,
-        bytes,
-        plan.sizes,
-        steps,
-        lanes,
-        cells,
-        marks,
-        plan.granted,
-    );
+    let plan = make_plan(text, bytes, lent.room())?;
+    let verdict = judge(s, text, bytes, plan, lent);
     let told = told_by(verdict);
-    match print_told(printed, told, field_cells(plan.sizes, cells)) {
-        Ok(len) => Ok(Answer { verdict, told, len }),
-        Err(_) => unreachable(),
-    }
+    let cells = &mut *lent.cells;
+    let printed = &mut *lent.printed;
+    let len = print_told(printed, told, field_cells(plan.sizes, cells)).unwrap();
+    Ok(Answer { verdict, told, len })
 }

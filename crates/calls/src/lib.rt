@@ -4,6 +4,7 @@
 pub mod answer;
 mod judge;
 mod load;
+pub mod memory;
 pub mod plan;
 pub mod programs;
 mod told;

@@ -1,6 +1,6 @@
 // Text, field and lent slices are taken together, or refused before anything is changed.
-ghost use Rattle.std.specs.Prelude.{◌≡◌, IfOk};
-ghost use Rattle.calls.specs.Plan.{refused_number, refused_place, planned, Plans};
+ghost use Rattle.std.specs.Prelude.{◌≡◌, IfOk, Some};
+ghost use Rattle.calls.specs.Plan.{refused_number, refused_place, refused_words, planned, Plans};
 
 use formats::field::read_field;
 use formats::sizes::{Room, check_sizes};
@@ -8,6 +8,7 @@ use formats::{refusal, sizes};
 use grammar::refusals;
 use grammar::refusals::{refusal_number, refusal_place};
 use reader::texts::read;
+use std::fmt;
 use store::Sizes;
 
 // How large everything is, and how many steps are granted.
@@ -25,23 +26,35 @@ pub enum Refused {
     Rest(refusal::Refusal),
 }
 
-// The number that is printed of a refusal.
-pub fn number_of(refused: Refused) -> u64
-    ensures { result ≡ refused_number refused }
-{
-    match refused {
-        Refused::Text(why) => refusal_number(why) as u64,
-        Refused::Rest(why) => refusal::number_of(why),
+impl Refused {
+    // The number that is printed of a refusal.
+    pub fn number(self) -> u64
+        ensures { result ≡ refused_number self }
+    {
+        match self {
+            Refused::Text(why) => refusal_number(why) as u64,
+            Refused::Rest(why) => refusal::number_of(why),
+        }
+    }
+
+    // The place that is printed of it.
+    pub fn place(self) -> usize
+        ensures { result ≡ refused_place self }
+    {
+        match self {
+            Refused::Text(why) => refusal_place(why),
+            Refused::Rest(why) => refusal::place_of(why),
+        }
     }
 }
 
-// The place that is printed of it.
-pub fn place_of(refused: Refused) -> usize
-    ensures { result ≡ refused_place refused }
-{
-    match refused {
-        Refused::Text(why) => refusal_place(why),
-        Refused::Rest(why) => refusal::place_of(why),
+impl fmt::Display for Refused {
+    ghost output = { λ r. Some (refused_words r) };
+
+    fn fmt<W: fmt::Write>(&self, f: &mut fmt::Formatter<W>) -> fmt::Result {
+        let number = self.number();
+        let place = self.place();
+        write!(f, "refused {number} at {place}")
     }
 }
 

@@ -1,9 +1,10 @@
 // What the programs call: nothing is asked of their callers.
 ghost use Rattle.std.specs.Prelude.{◌≡◌};
-ghost use Rattle.calls.specs.Answers.{Answered, Slices};
+ghost use Rattle.calls.specs.Answers.{Answered, SameLent, slices_of};
 ghost use Rattle.calls.specs.Plan.{wanted_as};
 
 use crate::answer::{Answer, answer_by};
+use crate::memory::Memory;
 use crate::plan::Refused;
 use formats::field::read_field;
 use formats::sizes;
@@ -36,28 +37,12 @@ pub fn room_for(text: &[u8], bytes: &[u8]) -> Result<Room, Refused>
 }
 
 // One lane after the other, each up to its next barrier.
-pub fn run_text(
-    text: &[u8],
-    bytes: &[u8],
-    steps: &mut [u32],
-    lanes: &mut [u32],
-    cells: &mut [u32],
-    marks: &mut [u64],
-    printed: &mut [u8],
-) -> Result<Answer, Refused>
-    ensures { Answered text.now bytes.now (record { steps = steps.entry.now; lanes = lanes.old; cells = cells.old; touches = marks.old; printed = printed.old }) (record { steps = steps.exit.now; lanes = lanes.new; cells = cells.new; touches = marks.new; printed = printed.new }) result }
+pub fn run_text(text: &[u8], bytes: &[u8], lent: &mut Memory<'_>) -> Result<Answer, Refused>
+    ensures same { SameLent lent.old lent.new }
+    ensures answered { Answered text.now bytes.now (slices_of lent.old) (slices_of lent.new) result }
 {
     let mut in_turn = InTurn { group: 0, lane: 0 };
-    answer_by(
-        &mut in_turn,
-        text,
-        bytes,
-        steps,
-        lanes,
-        cells,
-        marks,
-        printed,
-    )
+    answer_by(&mut in_turn, text, bytes, lent)
 }
 
 // The turns that are written down, and behind them one lane after the other.
@@ -65,29 +50,17 @@ pub fn any_text(
     turns: &[Written],
     text: &[u8],
     bytes: &[u8],
-    steps: &mut [u32],
-    lanes: &mut [u32],
-    cells: &mut [u32],
-    marks: &mut [u64],
-    printed: &mut [u8],
+    lent: &mut Memory<'_>,
 ) -> Result<Answer, Refused>
-    ensures { Answered text.now bytes.now (record { steps = steps.entry.now; lanes = lanes.old; cells = cells.old; touches = marks.old; printed = printed.old }) (record { steps = steps.exit.now; lanes = lanes.new; cells = cells.new; touches = marks.new; printed = printed.new }) result }
+    ensures same { SameLent lent.old lent.new }
+    ensures answered { Answered text.now bytes.now (slices_of lent.old) (slices_of lent.new) result }
 {
     let mut scripted = Scripted {
         turns,
         from: 0,
         rest: InTurn { group: 0, lane: 0 },
     };
-    let answer = answer_by(
-        &mut scripted,
-        text,
-        bytes,
-        steps,
-        lanes,
-        cells,
-        marks,
-        printed,
-    );
+    let answer = answer_by(&mut scripted, text, bytes, lent);
     let Scripted {
         turns: _,
         from: _,

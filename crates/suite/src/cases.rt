@@ -1,122 +1,114 @@
 // Cases in a file. A part of a case is a line with its name and its length, then so many bytes, then byte 10.
-ghost use Rattle.std.specs.Prelude.{◌≤◌, Bool, length, MatchOption};
-
 use grammar::numbers::read_number;
+use std::io;
 
-// The part's bytes are from..to of the file, and the next part begins at `next`.
+// What has to be printed: these bytes, or one of these lines.
 #[derive(Clone, Copy)]
-pub(crate) struct Part {
-    pub from: usize,
-    pub to: usize,
-    pub next: usize,
+enum Wanted<'a> {
+    All(&'a [u8]),
+    OneOf(&'a [u8]),
 }
 
-// A case. A part that it does not have is empty. `either`: what is printed must be one of the lines that are told, and not all of them.
+// A case. A part that it does not have is empty.
 #[derive(Clone, Copy)]
-pub(crate) struct Case {
-    pub text: Part,
-    pub field: Part,
-    pub turns: Part,
-    pub told: Part,
-    pub either: bool,
+pub(crate) struct Case<'a> {
+    pub text: &'a [u8],
+    pub field: &'a [u8],
+    pub turns: &'a [u8],
+    told: Wanted<'a>,
 }
 
-// The part of this name that stands at byte `at`, if it does.
-fn find_part(file: &[u8], at: usize, name: &[u8]) -> Option<Part> {
-    if file.len() <= at || file.len() - at <= name.len() {
-        return None;
+impl Case<'_> {
+    // Whether a refusal has to be printed.
+    pub(crate) fn is_refused(&self) -> bool {
+        match self.told {
+            Wanted::All(told) => told.starts_with(b"refused "),
+            Wanted::OneOf(_) => false,
+        }
     }
-    if file[at..at + name.len()] != name[..] {
-        return None;
+
+    // Whether the first n bytes that were printed are what the case has.
+    pub(crate) fn is_right(&self, out: &[u8], n: usize) -> bool {
+        let Some(printed) = out.get(..n) else {
+            return false;
+        };
+        match self.told {
+            Wanted::All(told) => *told == *printed,
+            Wanted::OneOf(lines) => lines
+                .split_inclusive(|b| *b == b'\n')
+                .any(|line| *line == *printed),
+        }
     }
-    let number = read_number(file, at + name.len() + 1);
-    if number.end >= file.len() {
-        return None;
-    }
-    let len = number.value? as usize;
-    if len >= file.len() - number.end {
-        return None;
-    }
-    let from = number.end + 1;
-    let to = from + len;
+}
+
+// A part's bytes, and the file behind it.
+#[derive(Clone, Copy)]
+struct Part<'a> {
+    bytes: &'a [u8],
+    rest: &'a [u8],
+}
+
+// The part of this name at the head of the file, if it stands there.
+fn find_part<'a>(file: &'a [u8], name: &[u8]) -> Option<Part<'a>> {
+    let line = file.strip_prefix(name)?;
+    let length = read_number(line, 1);
+    let behind = line.get(length.end..)?.get(1..)?;
+    let (bytes, rest) = behind.split_at_checked(length.value? as usize)?;
     Some(Part {
-        from,
-        to,
-        next: to + 1,
+        bytes,
+        rest: rest.get(1..).unwrap_or(&[]),
     })
 }
 
 // The same, or an empty part.
-fn part_or_none(file: &[u8], at: usize, name: &[u8]) -> Part {
-    match find_part(file, at, name) {
-        Some(part) => part,
-        None => Part {
-            from: 0,
-            to: 0,
-            next: at,
-        },
-    }
-}
-
-// The case that begins at byte `at`, if one does.
-pub(crate) fn find_case(file: &[u8], at: usize) -> Option<Case> {
-    let name = find_part(file, at, b"case")?;
-    let text = find_part(file, name.next, b"text")?;
-    let field = part_or_none(file, text.next, b"field");
-    let turns = part_or_none(file, field.next, b"turns");
-    if let Some(told) = find_part(file, turns.next, b"told") {
-        return Some(Case {
-            text,
-            field,
-            turns,
-            told,
-            either: false,
-        });
-    }
-    let told = find_part(file, turns.next, b"either")?;
-    Some(Case {
-        text,
-        field,
-        turns,
-        told,
-        either: true,
+fn part_or_none<'a>(file: &'a [u8], name: &[u8]) -> Part<'a> {
+    find_part(file, name).unwrap_or(Part {
+        bytes: &[],
+        rest: file,
     })
 }
 
-// The part's bytes.
-pub(crate) fn bytes_of(file: &[u8], part: Part) -> &[u8] {
-    let from = part.from;
-    let to = part.to;
-    if from <= to && to <= file.len() {
-        &file[from..to]
-    } else {
-        &file[..0]
-    }
+// The case at the head of the file, if one stands there, and the file behind it.
+fn find_case(file: &[u8]) -> Option<(Case<'_>, &[u8])> {
+    let name = find_part(file, b"case")?;
+    let text = find_part(name.rest, b"text")?;
+    let field = part_or_none(text.rest, b"field");
+    let turns = part_or_none(field.rest, b"turns");
+    let (told, rest) = match find_part(turns.rest, b"told") {
+        Some(told) => (Wanted::All(told.bytes), told.rest),
+        None => {
+            let lines = find_part(turns.rest, b"either")?;
+            (Wanted::OneOf(lines.bytes), lines.rest)
+        }
+    };
+    let case = Case {
+        text: text.bytes,
+        field: field.bytes,
+        turns: turns.bytes,
+        told,
+    };
+    Some((case, rest))
 }
 
-// One of the lines is the printed one.
-fn one_line(lines: &[u8], printed: &[u8]) -> bool {
-    let mut from = 0;
-    for i in 0..lines.len() {
-        if lines[i] == 10 {
-            if from <= i && lines[from..i + 1] == printed[..] {
-                return true;
-            }
-            from = i + 1;
+// How many cases of the file are right, up to the first that is not. A case of which nothing is said is passed over.
+pub(crate) fn count_right<F: FnMut(Case<'_>) -> io::Result<Option<bool>>>(
+    file: &[u8],
+    mut is_right: F,
+) -> io::Result<u64>
+    requires { F.IsAlwaysCallable is_right }
+{
+    let mut rest = file;
+    let mut right = 0u64;
+    for _ in 0..1000 {
+        let Some((case, behind)) = find_case(rest) else {
+            break;
+        };
+        rest = behind;
+        match is_right(case)? {
+            Some(true) => right = right.saturating_add(1),
+            Some(false) => break,
+            None => {}
         }
     }
-    false
-}
-
-// Whether the first n bytes that were printed are what the case has.
-pub(crate) fn is_right(file: &[u8], case: Case, printed: &[u8], n: usize) -> bool {
-    if n > printed.len() {
-        return false;
-    }
-    let told = bytes_of(file, case.told);
-    if case.either {
-        one_line(told, &printed[..n])
-    } else {
-        told[..] == printed[..n]
-    }
+    Ok(right)
 }

@@ -11,7 +11,7 @@ use std::io;
 
 fn main(rt: HostRuntime) -> io::Result<()> {
     let file = cli::read(&rt, "texts")?;
-    let right = texts::read_all(file.as_slice());
+    let right = texts::read_all(file.as_slice())?;
     println!(rt; "texts read: {right} right")?;
     let right = texts::run_all(&rt, file.as_slice())?;
     println!(rt; "texts written anew: {right} right")?;

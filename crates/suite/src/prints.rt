@@ -14,36 +14,10 @@ fn touch(group: usize, lane: usize, phase: u64, wrote: bool) -> Touch {
     }
 }
 
-// The told thing number k of the table.
-fn row(k: usize) -> Told {
-    match k {
-        0 => Told::Race {
-            place: Place::Field,
-            cell: 12,
-            first: touch(0, 1, 0, true),
-            second: touch(1, 0, 2, false),
-        },
-        1 => Told::Race {
-            place: Place::Cell,
-            cell: 16383,
-            first: touch(1023, 9, 10, false),
-            second: touch(1023, 1023, 18446744073709551615, true),
-        },
-        2 => Told::Wrong { group: 0, lane: 5 },
-        3 => Told::Wrong {
-            group: 1023,
-            lane: 100,
-        },
-        4 => Told::Stuck { group: 3 },
-        5 => Told::TooLong,
-        _ => Told::Field,
-    }
-}
-
-fn print_row(rt: &HostRuntime, k: usize, cells: &[u32]) -> io::Result<()> {
+fn print_row(rt: &HostRuntime, told: Told, cells: &[u32]) -> io::Result<()> {
     let mut out = [0u8; 400];
-    match print_told(&mut out, row(k), cells) {
-        Ok(n) => rt.write_all(&out[0..n.min(400)]),
+    match print_told(&mut out, told, cells) {
+        Ok(n) => rt.write_all(&out[..n.min(400)]),
         Err(_) => rt.println("refused"),
     }
 }
@@ -51,7 +25,7 @@ fn print_row(rt: &HostRuntime, k: usize, cells: &[u32]) -> io::Result<()> {
 fn print_refused(rt: &HostRuntime, number: u64, place: usize) -> io::Result<()> {
     let mut out = [0u8; 256];
     match print_refusal(&mut out, number, place) {
-        Ok(n) => rt.write_all(&out[0..n.min(256)]),
+        Ok(n) => rt.write_all(&out[..n.min(256)]),
         Err(_) => rt.println("refused"),
     }
 }
@@ -64,17 +38,9 @@ fn print_short(rt: &HostRuntime) -> io::Result<()> {
     }
 }
 
-// One less at the place that is to be too short.
-fn less(wanted: usize, short: bool) -> usize {
-    if short {
-        wanted.saturating_sub(1)
-    } else {
-        wanted
-    }
-}
-
 // 3 lines, 2 groups of 5 lanes, 2 own numbers, 4 cells a group and a field of 7 want 48, 1,300, 15 and 90 words and 326 bytes.
-fn print_sizes(rt: &HostRuntime, short: usize) -> io::Result<()> {
+// The slice that is to be too short has one less.
+fn print_sizes(rt: &HostRuntime, short: Option<Lent>) -> io::Result<()> {
     let shape = Shape {
         lines: 3,
         groups: 2,
@@ -83,12 +49,13 @@ fn print_sizes(rt: &HostRuntime, short: usize) -> io::Result<()> {
         shared: 4,
         field: 7,
     };
+    let long = |slice: Lent, wanted: usize| wanted.saturating_sub((short == Some(slice)) as usize);
     let lent = Room {
-        steps: less(48, short == 0),
-        lanes: less(1300, short == 1),
-        cells: less(15, short == 2),
-        touches: less(90, short == 3),
-        printed: less(326, short == 4),
+        steps: long(Lent::Steps, 48),
+        lanes: long(Lent::Lanes, 1300),
+        cells: long(Lent::Cells, 15),
+        touches: long(Lent::Touches, 90),
+        printed: long(Lent::Printed, 326),
     };
     match check_sizes(shape, lent) {
         Ok(()) => rt.println("room enough"),
@@ -97,21 +64,49 @@ fn print_sizes(rt: &HostRuntime, short: usize) -> io::Result<()> {
 }
 
 pub(crate) fn print_all(rt: &HostRuntime) -> io::Result<()> {
-    for k in 0..6 {
-        print_row(rt, k, &[7])?;
+    let told = [
+        Told::Race {
+            place: Place::Field,
+            cell: 12,
+            first: touch(0, 1, 0, true),
+            second: touch(1, 0, 2, false),
+        },
+        Told::Race {
+            place: Place::Cell,
+            cell: 16383,
+            first: touch(1023, 9, 10, false),
+            second: touch(1023, 1023, 18446744073709551615, true),
+        },
+        Told::Wrong { group: 0, lane: 5 },
+        Told::Wrong {
+            group: 1023,
+            lane: 100,
+        },
+        Told::Stuck { group: 3 },
+        Told::TooLong,
+    ];
+    for told in told {
+        print_row(rt, told, &[7])?;
     }
-    print_row(rt, 6, &[])?;
+    print_row(rt, Told::Field, &[])?;
     print_row(
         rt,
-        6,
+        Told::Field,
         &[10, 11, 4294967295, 305419896, 3735928559, 0, 1, 16],
     )?;
-    print_row(rt, 6, &[1, 2, 3, 4, 5, 6, 7, 8, 9])?;
+    print_row(rt, Told::Field, &[1, 2, 3, 4, 5, 6, 7, 8, 9])?;
     print_refused(rt, 1, 6)?;
     print_refused(rt, 4, 1048576)?;
     print_short(rt)?;
-    for short in 0..6 {
-        print_sizes(rt, short)?;
+    let slices = [
+        Lent::Steps,
+        Lent::Lanes,
+        Lent::Cells,
+        Lent::Touches,
+        Lent::Printed,
+    ];
+    for slice in slices {
+        print_sizes(rt, Some(slice))?;
     }
-    Ok(())
+    print_sizes(rt, None)
 }

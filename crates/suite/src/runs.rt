@@ -1,90 +1,29 @@
 // Programs and fields, and what is told of them in the machine's own order, or behind turns that the case has.
-use crate::cases::{Case, bytes_of, find_case, is_right};
+use crate::cases::{Case, count_right};
 use crate::fields::from_hex;
-use calls::answer::Answer;
-use calls::plan::{Refused, number_of, place_of};
-use calls::programs::{any_text, room_for, run_text};
 use formats::print::print_refusal;
-use formats::sizes::Room;
-use machine::script::{Written, read_turns};
-use std::alloc::{AllocError, Global};
+use machine::script::read_turns;
 use std::io;
 
-// How many bytes were printed: of what is told, or of the refusal.
-fn len_of(answer: Result<Answer, Refused>, out: &mut [u8]) -> usize {
-    match answer {
-        Ok(answer) => answer.len,
-        Err(why) => print_refusal(out, number_of(why), place_of(why)).unwrap_or(0),
-    }
-}
-
-// Lends as much memory as is wanted, and runs the program behind the turns, if there are some.
-fn lend(
-    heap: Global,
-    text: &[u8],
-    bytes: &[u8],
-    turns: &[Written],
-    room: Room,
-    out: &mut [u8],
-) -> Result<usize, AllocError> {
-    let mut steps = vec![in heap; 0u32; room.steps]?;
-    let mut lanes = vec![in heap; 0u32; room.lanes]?;
-    let mut cells = vec![in heap; 0u32; room.cells]?;
-    let mut marks = vec![in heap; 0u64; room.touches]?;
-    let answer = if turns.len() > 0 {
-        any_text(
-            turns,
-            text,
-            bytes,
-            steps.as_mut_slice(),
-            lanes.as_mut_slice(),
-            cells.as_mut_slice(),
-            marks.as_mut_slice(),
-            out,
-        )
-    } else {
-        run_text(
-            text,
-            bytes,
-            steps.as_mut_slice(),
-            lanes.as_mut_slice(),
-            cells.as_mut_slice(),
-            marks.as_mut_slice(),
-            out,
-        )
+// Whether what is told of a case, or how it is refused, is what the case has.
+fn is_told(rt: &HostRuntime, case: Case<'_>) -> io::Result<bool> {
+    let bytes = from_hex(rt.alloc(), case.field)?;
+    let Ok(turns) = read_turns(rt.alloc(), case.turns) else {
+        return Ok(false);
     };
-    Ok(len_of(answer, out))
-}
-
-// What is printed of a case, and how many bytes that are.
-fn print_case(heap: Global, file: &[u8], case: Case, out: &mut [u8]) -> Result<usize, AllocError> {
-    let text = bytes_of(file, case.text);
-    let bytes = from_hex(heap, bytes_of(file, case.field))?;
-    let Ok(turns) = read_turns(heap, bytes_of(file, case.turns)) else {
-        return Ok(0);
-    };
-    match room_for(text, bytes.as_slice()) {
-        Ok(room) => lend(heap, text, bytes.as_slice(), turns.as_slice(), room, out),
-        Err(why) => Ok(print_refusal(out, number_of(why), place_of(why)).unwrap_or(0)),
-    }
-}
-
-// How many cases of the file are right, up to the first that is not.
-pub(crate) fn run_all(rt: &HostRuntime, file: &[u8]) -> io::Result<u64> {
-    let heap = rt.alloc();
-    let mut out = vec![in heap; 0u8; 65536]?;
-    let mut right = 0u64;
-    let mut at = 0;
-    for _ in 0..1000 {
-        let Some(case) = find_case(file, at) else {
-            break;
-        };
-        let n = print_case(heap, file, case, out.as_mut_slice())?;
-        if !is_right(file, case, out.as_slice(), n) {
-            break;
+    let turns = Some(turns.as_slice()).filter(|turns| !turns.is_empty());
+    let mut lent = show::lend(rt, case.text, bytes.as_slice())?;
+    match lent.run(case.text, bytes.as_slice(), turns) {
+        Ok(answer) => Ok(case.is_right(lent.printed.as_slice(), answer.len)),
+        Err(why) => {
+            let mut out = [0u8; 256];
+            let n = print_refusal(&mut out, why.number(), why.place()).unwrap_or(0);
+            Ok(case.is_right(&out, n))
         }
-        right = right.saturating_add(1);
-        at = case.told.next;
     }
-    Ok(right)
+}
+
+// How many programs are told of as the file has it.
+pub(crate) fn run_all(rt: &HostRuntime, file: &[u8]) -> io::Result<u64> {
+    count_right(file, |case| Ok(Some(is_told(rt, case)?)))
 }

@@ -1,69 +1,34 @@
 // Texts: which are taken, how the others are refused, and how those that are taken are written anew.
-use crate::cases::{bytes_of, find_case, is_right};
-use grammar::numbers::read_number;
+use crate::cases::count_right;
+use formats::print::print_refusal;
 use grammar::refusals::{refusal_number, refusal_place};
 use reader::texts::read;
 use std::io;
 use writer::anew::rewrite;
 
-fn is_refusal(told: &[u8]) -> bool {
-    match told {
-        [b'r', b'e', b'f', b'u', b's', b'e', b'd', b' ', ..] => true,
-        _ => false,
-    }
-}
-
-// How many texts that are taken are written anew as the file has it, up to the first that is not.
+// How many texts that are taken are written anew as the file has it.
 pub(crate) fn run_all(rt: &HostRuntime, file: &[u8]) -> io::Result<u64> {
     let mut out = vec![in rt.alloc(); 0u8; 16384]?;
-    let mut right = 0u64;
-    let mut at = 0;
-    for _ in 0..1000 {
-        let Some(case) = find_case(file, at) else {
-            break;
-        };
-        at = case.told.next;
-        if is_refusal(bytes_of(file, case.told)) {
-            continue;
+    count_right(file, |case| {
+        if case.is_refused() {
+            return Ok(None);
         }
-        let Some(n) = rewrite(bytes_of(file, case.text), out.as_mut_slice()) else {
-            break;
+        let Some(n) = rewrite(case.text, out.as_mut_slice()) else {
+            return Ok(Some(false));
         };
-        if !is_right(file, case, out.as_slice(), n) {
-            break;
-        }
-        right = right.saturating_add(1);
-    }
-    Ok(right)
+        Ok(Some(case.is_right(out.as_slice(), n)))
+    })
 }
 
-// The text is taken, or refused with the number and the place that the case has.
-fn is_read(text: &[u8], told: &[u8]) -> bool {
-    match read(text) {
-        Ok(_) => !is_refusal(told),
-        Err(refusal) => {
-            let number = read_number(told, 8);
-            let place = read_number(told, 13);
-            is_refusal(told)
-                && number.value == Some(refusal_number(refusal) as u32)
-                && place.value.map(u64::from) == Some(refusal_place(refusal) as u64)
+// How many texts are taken, or refused with the number and the place that the file has.
+pub(crate) fn read_all(file: &[u8]) -> io::Result<u64> {
+    let mut out = [0u8; 256];
+    count_right(file, |case| match read(case.text) {
+        Ok(_) => Ok(Some(!case.is_refused())),
+        Err(why) => {
+            let number = refusal_number(why) as u64;
+            let n = print_refusal(&mut out, number, refusal_place(why)).unwrap_or(0);
+            Ok(Some(case.is_right(&out, n)))
         }
-    }
-}
-
-// How many texts are read as the file has it, up to the first that is not.
-pub(crate) fn read_all(file: &[u8]) -> u64 {
-    let mut right = 0u64;
-    let mut at = 0;
-    for _ in 0..1000 {
-        let Some(case) = find_case(file, at) else {
-            break;
-        };
-        at = case.told.next;
-        if !is_read(bytes_of(file, case.text), bytes_of(file, case.told)) {
-            break;
-        }
-        right = right.saturating_add(1);
-    }
-    right
+    })
 }

@@ -1,0 +1,66 @@
+// The memory that a program lends.
+ghost use Rattle.std.specs.Prelude.{◌≤◌, IfOk, vec_len};
+ghost use Rattle.show.specs.Ends.{AnsweredFrom};
+
+use calls::answer::Answer;
+use calls::memory::Memory;
+use calls::plan::Refused;
+use calls::programs::{any_text, room_for, run_text};
+use formats::sizes::Room;
+use machine::script::Written;
+use std::io;
+
+// The five slices that are lent.
+#[derive(Drop)]
+pub struct Slices {
+    pub steps: Vec<u32>,
+    pub lanes: Vec<u32>,
+    pub cells: Vec<u32>,
+    pub marks: Vec<u64>,
+    pub printed: Vec<u8>,
+}
+
+// As much as the text and the field want; nothing if they are refused, which the call then says.
+pub fn lend(rt: &HostRuntime, text: &[u8], bytes: &[u8]) -> io::Result<Slices>
+    ensures { IfOk result (λ s. vec_len s.printed ≤ 18446744073709551615) }
+{
+    let room = room_for(text, bytes).unwrap_or(Room {
+        steps: 0,
+        lanes: 0,
+        cells: 0,
+        touches: 0,
+        printed: 0,
+    });
+    let heap = rt.alloc();
+    Ok(Slices {
+        steps: vec![in heap; 0u32; room.steps]?,
+        lanes: vec![in heap; 0u32; room.lanes]?,
+        cells: vec![in heap; 0u32; room.cells]?,
+        marks: vec![in heap; 0u64; room.touches]?,
+        printed: vec![in heap; 0u8; room.printed]?,
+    })
+}
+
+impl Slices {
+    // Runs the text on the field in this memory: does the turns, if there are some written down, and then one lane after the other.
+    pub fn run(
+        &mut self,
+        text: &[u8],
+        bytes: &[u8],
+        turns: Option<&[Written]>,
+    ) -> Result<Answer, Refused>
+        ensures { AnsweredFrom text.now bytes.now self.old result }
+    {
+        let mut lent = Memory {
+            steps: self.steps.as_mut_slice(),
+            lanes: self.lanes.as_mut_slice(),
+            cells: self.cells.as_mut_slice(),
+            marks: self.marks.as_mut_slice(),
+            printed: self.printed.as_mut_slice(),
+        };
+        match turns {
+            Some(turns) => any_text(turns, text, bytes, &mut lent),
+            None => run_text(text, bytes, &mut lent),
+        }
+    }
+}

@@ -7,7 +7,7 @@ ghost use Rattle.calls.specs.Answers.{Answered, SameLent, slices_of};
 
 use crate::judge::judge;
 use crate::memory::Memory;
-use crate::plan::{Refused, make_plan};
+use crate::plan::{Plan, Refused, make_plan};
 use crate::told::told_by;
 use formats::print::print_told;
 use formats::told::Told;
@@ -43,11 +43,12 @@ pub fn answer_by<S: Scheduler>(
     ensures same { SameLent lent.old lent.new }
     ensures answered { Answered text.now bytes.now (slices_of lent.old) (slices_of lent.new) result }
 {
-    let plan = make_plan(text, bytes, lent.room())?;
-    let verdict = judge(s, text, bytes, plan, lent);
+    let Plan { sizes, granted } = make_plan(text, bytes, lent.room())?;
+    let verdict = judge(s, text, bytes, sizes, granted, lent);
     let told = told_by(verdict);
+    // Both are taken out first: one of them can't be read from behind `lent` while the other is written there.
     let cells = &mut *lent.cells;
     let printed = &mut *lent.printed;
-    let len = print_told(printed, told, field_cells(plan.sizes, cells)).unwrap();
+    let len = print_told(printed, told, field_cells(sizes, cells)).unwrap();
     Ok(Answer { verdict, told, len })
 }

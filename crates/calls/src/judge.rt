@@ -12,39 +12,40 @@ ghost use Rattle.calls.specs.Load.{For, Starts};
 
 use crate::load::load;
 use crate::memory::Memory;
-use crate::plan::Plan;
 use machine::run::run_turns;
 use machine::schedule::Scheduler;
 use machine::verdict::Verdict;
+use store::Sizes;
 
 // The slices are long enough, the field's bytes are there, and the text is a program for which the scheduler is ready.
 pub fn judge<S: Scheduler>(
     s: &mut S,
     text: &[u8],
     bytes: &[u8],
-    plan: Plan,
+    z: Sizes,
+    granted: u64,
     lent: &mut Memory<'_>,
 ) -> Verdict
-    requires lent { Lent plan.sizes lent.old.lanes.now lent.old.cells.now }
-    requires watch { 6 * cells_room plan.sizes ≤ length lent.old.marks.now }
-    requires field { 16 + 4 * plan.sizes.field ≤ length bytes.now }
-    requires most { plan.granted ≤ 1099511627776 }
-    requires starts { Starts S.Scheduler.knows s.old plan.sizes text.now bytes.now lent.old.steps.now }
+    requires lent { Lent z lent.old.lanes.now lent.old.cells.now }
+    requires watch { 6 * cells_room z ≤ length lent.old.marks.now }
+    requires field { 16 + 4 * z.field ≤ length bytes.now }
+    requires most { granted ≤ 1099511627776 }
+    requires starts { Starts S.Scheduler.knows s.old z text.now bytes.now lent.old.steps.now }
     ensures same { SameLent lent.old lent.new }
     ensures printed { lent.new.printed.now ≡ lent.old.printed.now }
-    ensures shown { (ns : List (List ℕ)) (p : Program) → For ns p plan.sizes text.now lent.old.steps.now → (ts : List Turn) × Shows plan.granted plan.sizes.lanes (begin p plan.sizes.groups plan.sizes.lanes (cells_read bytes.now plan.sizes.field)) ts (told_of result (field_of plan.sizes lent.new.cells.now)) }
+    ensures shown { (ns : List (List ℕ)) (p : Program) → For ns p z text.now lent.old.steps.now → (ts : List Turn) × Shows granted z.lanes (begin p z.groups z.lanes (cells_read bytes.now z.field)) ts (told_of result (field_of z lent.new.cells.now)) }
 {
-    let lines = load(text, bytes, plan.sizes, lent);
+    let lines = load(text, bytes, z, lent);
     let steps = &mut *lent.steps;
     run_turns(
         s,
         text,
         steps,
         lines,
-        plan.sizes,
+        z,
         lent.lanes,
         lent.cells,
         lent.marks,
-        plan.granted,
+        granted,
     )
 }

@@ -11,26 +11,28 @@ use Rattle.formats.specs.declared.refusal.Refusal as fields
 use Rattle.formats.specs.declared.sizes.Room.{Room}
 use Rattle.store.specs.Layout.{Sized}
 use Rattle.calls.specs.declared.plan.Refused.TheVariants.{Text, Rest}
-use Rattle.calls.specs.Plan.{asked, plan_of_spec, checked, prepared, planned, wanted_by, wanted_as, Plans}
+use Rattle.calls.specs.declared.plan.Asked.{Asked}
+use Rattle.calls.specs.declared.plan.Plan.{Plan}
+use Rattle.calls.specs.declared.plan.Refused.{Refused}
+use Rattle.calls.specs.Plan.{asked, asked_of, asked_by, plan_of_spec, checked, prepared, wanted_by, Plans}
 
-module _ (text bytes : List ℕ) (room : Room) where
-  pub text-refused : (e : texts.Refusal) → Err e ≡ read_at text → Err (Text e) ≡ planned text bytes room
-  unfolding planned
-  text-refused e p = ap (λ (r : Result Shape texts.Refusal). prepared r (read_as bytes) room) p
+-- who is refused what is asked for is refused
+pub refused : (r : Result Shape texts.Refusal) (f : Result Header fields.Refusal) (room : Room) (e : Refused) → Err e ≡ asked_by r f → Err e ≡ prepared r f room
+refused (Err t) f room e p = cc
+refused (Ok s) (Err t) room e p = cc
+refused (Ok s) (Ok h) room e p = cc
 
-  pub field-refused : (s : Shape) (e : fields.Refusal) → Ok s ≡ read_at text → Err e ≡ read_as bytes → Err (Rest e) ≡ planned text bytes room
-  unfolding planned
-  field-refused s e p q = ap (λ (f : Result Header fields.Refusal). prepared (Ok s) f room) q ∙ ap (λ (r : Result Shape texts.Refusal). prepared r (read_as bytes) room) p
+-- else the slices are checked for it
+abbrev plan_from : Asked → Plan
+plan_from a = record { sizes = record { groups = a.shape.groups; lanes = a.shape.lanes; owns = a.shape.owns; shared = a.shape.shared; field = a.shape.field }; granted = a.granted }
 
-  by-check : (s : Shape) (h : Header) → Ok s ≡ read_at text → Ok h ≡ read_as bytes → checked (check_as (wanted_for (asked s h)) room) (plan_of_spec s h) ≡ planned text bytes room
-  unfolding planned
-  by-check s h p q = ap (λ (f : Result Header fields.Refusal). prepared (Ok s) f room) q ∙ ap (λ (r : Result Shape texts.Refusal). prepared r (read_as bytes) room) p
+abbrev by_room : Room → Asked → Result Plan Refused
+by_room room a = checked (check_as (wanted_for a.shape) room) (plan_from a)
 
-  pub short-refused : (s : Shape) (h : Header) (e : fields.Refusal) → Ok s ≡ read_at text → Ok h ≡ read_as bytes → Err e ≡ check_as (wanted_for (asked s h)) room → Err (Rest e) ≡ planned text bytes room
-  short-refused s h e p q c = ap (λ (x : Result (Unit {0}) fields.Refusal). checked x (plan_of_spec s h)) c ∙ by-check s h p q
-
-  pub taken : (s : Shape) (h : Header) (u : Unit {0}) → Ok s ≡ read_at text → Ok h ≡ read_as bytes → Ok u ≡ check_as (wanted_for (asked s h)) room → Ok (plan_of_spec s h) ≡ planned text bytes room
-  taken s h u p q c = ap (λ (x : Result (Unit {0}) fields.Refusal). checked x (plan_of_spec s h)) c ∙ by-check s h p q
+pub checks : (r : Result Shape texts.Refusal) (f : Result Header fields.Refusal) (room : Room) (a : Asked) → Ok a ≡ asked_by r f → by_room room a ≡ prepared r f room
+checks (Err t) f room a p = cc
+checks (Ok s) (Err t) room a p = cc
+checks (Ok s) (Ok h) room a p = let e : a ≡ asked_of s h = cc in ap (by_room room) e
 
 -- the sizes of what is read are in bounds
 pub plan-sized : (text bytes : List ℕ) (s : Shape) (h : Header) → ReadAs text s → IsField bytes h → Sized (plan_of_spec s h).sizes
@@ -74,15 +76,12 @@ plans text bytes room s h u a b c =
     }
 
 -- how long the slices have to be
-pub wanted-text : (text bytes : List ℕ) (e : texts.Refusal) → Err e ≡ read_at text → Err (Text e) ≡ wanted_as text bytes
-unfolding wanted_as
-wanted-text text bytes e p = ap (λ (r : Result Shape texts.Refusal). wanted_by r (read_as bytes)) p
+pub wants : (r : Result Shape texts.Refusal) (f : Result Header fields.Refusal) (a : Asked) → Ok a ≡ asked_by r f → Ok (wanted_for a.shape) ≡ wanted_by r f
+wants (Err t) f a p = cc
+wants (Ok s) (Err t) a p = cc
+wants (Ok s) (Ok h) a p = let e : a ≡ asked_of s h = cc in ap (λ (x : Asked). Ok (wanted_for x.shape)) e
 
-pub wanted-field : (text bytes : List ℕ) (s : Shape) (e : fields.Refusal) → Ok s ≡ read_at text → Err e ≡ read_as bytes → Err (Rest e) ≡ wanted_as text bytes
-unfolding wanted_as
-wanted-field text bytes s e p q = ap (λ (f : Result Header fields.Refusal). wanted_by (Ok s) f) q ∙ ap (λ (r : Result Shape texts.Refusal). wanted_by r (read_as bytes)) p
-
-pub wanted-both : (text bytes : List ℕ) (s : Shape) (h : Header) (w : Room) → Ok s ≡ read_at text → Ok h ≡ read_as bytes → w ≡ wanted_for (asked s h) → Ok w ≡ wanted_as text bytes
-unfolding wanted_as
-wanted-both text bytes s h w p q e =
-    ap (λ (x : Room). Ok x) e ∙ (ap (λ (f : Result Header fields.Refusal). wanted_by (Ok s) f) q ∙ ap (λ (r : Result Shape texts.Refusal). wanted_by r (read_as bytes)) p)
+pub wants-none : (r : Result Shape texts.Refusal) (f : Result Header fields.Refusal) (e : Refused) → Err e ≡ asked_by r f → Err e ≡ wanted_by r f
+wants-none (Err t) f e p = cc
+wants-none (Ok s) (Err t) e p = cc
+wants-none (Ok s) (Ok h) e p = cc

@@ -12,6 +12,7 @@ use Rattle.formats.specs.declared.refusal.Refusal as fields
 use Rattle.formats.specs.declared.sizes.Room.{Room}
 use Rattle.formats.specs.declared.sizes.Shape as sizes
 use Rattle.store.specs.Layout.{cells_room}
+use Rattle.calls.specs.declared.plan.Asked.{Asked}
 use Rattle.calls.specs.declared.plan.Plan.{Plan}
 use Rattle.calls.specs.declared.plan.Refused.{Refused}
 use Rattle.calls.specs.declared.plan.Refused.TheVariants.{Text, Rest}
@@ -32,6 +33,23 @@ refused_words r = (codes "refused " ++ decimal (refused_number r)) ++ (codes " a
 -- What the text and the field ask for.
 abbrev pub asked : Shape → Header → sizes.Shape
 asked s h = record { lines = s.lines; groups = h.groups; lanes = h.lanes; owns = s.owns; shared = s.cells; field = h.cells }
+
+-- That, and the steps that are granted; or why the text or the field is refused.
+abbrev pub asked_of : Shape → Header → Asked
+asked_of s h = record { shape = asked s h; granted = h.steps }
+
+abbrev pub asked_by : Result Shape texts.Refusal → Result Header fields.Refusal → Result Asked Refused
+asked_by (Err e) f = Err (Text e)
+asked_by (Ok s) (Err e) = Err (Rest e)
+asked_by (Ok s) (Ok h) = Ok (asked_of s h)
+
+-- What is known of what is asked for.
+pub record Asks (text bytes : List ℕ) (a : Asked) : Type 0 where
+  pub shape : Shape
+  pub header : Header
+  pub read : ReadAs text shape
+  pub field : IsField bytes header
+  pub asked : a ≡ asked_of shape header
 
 abbrev pub plan_of_spec : Shape → Header → Plan
 plan_of_spec s h = record { sizes = record { groups = h.groups; lanes = h.lanes; owns = s.owns; shared = s.cells; field = h.cells }; granted = h.steps }

@@ -38,14 +38,6 @@ pub fn judge<S: Scheduler>(
     let lines = load(text, bytes, z, lent);
     let steps = &mut *lent.steps;
     run_turns(
-        s,
-        text,
-        steps,
-        lines,
-        z,
-        lent.lanes,
-        lent.cells,
-        lent.marks,
-        granted,
+        s, text, steps, lines, z, lent.lanes, lent.cells, lent.marks, granted,
     )
 }

@@ -1,6 +1,9 @@
 // Text, field and lent slices are taken together, or refused before anything is changed.
 ghost use Rattle.std.specs.Prelude.{◌≡◌, IfOk, Some};
-ghost use Rattle.calls.specs.Plan.{refused_number, refused_place, refused_words, planned, Plans};
+ghost use Rattle.calls.specs.declared.plan.Refused.TheVariants.{Text, Rest};
+ghost use Rattle.formats.specs.Field.{read_as};
+ghost use Rattle.reader.specs.Texts.{read_at};
+ghost use Rattle.calls.specs.Plan.{asked_by, Asks, refused_number, refused_place, refused_words, planned, Plans};
 
 use formats::field::read_field;
 use formats::sizes::{Room, check_sizes};
@@ -24,6 +27,22 @@ pub enum Refused {
     Text(refusals::Refusal),
     // the field's bytes, or a lent slice
     Rest(refusal::Refusal),
+}
+
+impl From<refusals::Refusal> for Refused {
+    ghost from_gives = { λ why refused. refused ≡ Text why };
+
+    fn from(why: refusals::Refusal) -> Refused {
+        Refused::Text(why)
+    }
+}
+
+impl From<refusal::Refusal> for Refused {
+    ghost from_gives = { λ why refused. refused ≡ Rest why };
+
+    fn from(why: refusal::Refusal) -> Refused {
+        Refused::Rest(why)
+    }
 }
 
 impl Refused {
@@ -58,38 +77,45 @@ impl fmt::Display for Refused {
     }
 }
 
+// What a text and a field's bytes ask for.
+#[derive(Clone, Copy)]
+pub(crate) struct Asked {
+    pub shape: sizes::Shape,
+    pub granted: u64,
+}
+
+// What they ask for; the text is refused before the field's bytes.
+pub(crate) fn ask(text: &[u8], bytes: &[u8]) -> Result<Asked, Refused>
+    ensures is { result ≡ asked_by (read_at text.now) (read_as bytes.now) }
+    ensures known { IfOk result (λ a. Asks text.now bytes.now a) }
+{
+    let shape = read(text)?;
+    let header = read_field(bytes)?;
+    Ok(Asked {
+        shape: sizes::Shape {
+            lines: shape.lines,
+            groups: header.groups,
+            lanes: header.lanes,
+            owns: shape.owns,
+            shared: shape.cells,
+            field: header.cells,
+        },
+        granted: header.steps,
+    })
+}
+
 pub fn make_plan(text: &[u8], bytes: &[u8], room: Room) -> Result<Plan, Refused>
     ensures is { result ≡ planned text.now bytes.now room }
     ensures known { IfOk result (λ p. Plans text.now bytes.now room p) }
 {
-    let shape = match read(text) {
-        Ok(shape) => shape,
-        Err(why) => return Err(Refused::Text(why)),
-    };
-    let header = match read_field(bytes) {
-        Ok(header) => header,
-        Err(why) => return Err(Refused::Rest(why)),
-    };
-    let asked = sizes::Shape {
-        lines: shape.lines,
-        groups: header.groups,
-        lanes: header.lanes,
-        owns: shape.owns,
-        shared: shape.cells,
-        field: header.cells,
-    };
+    let Asked { shape, granted } = ask(text, bytes)?;
+    check_sizes(shape, room)?;
     let sizes = Sizes {
-        groups: header.groups,
-        lanes: header.lanes,
+        groups: shape.groups,
+        lanes: shape.lanes,
         owns: shape.owns,
-        shared: shape.cells,
-        field: header.cells,
+        shared: shape.shared,
+        field: shape.field,
     };
-    match check_sizes(asked, room) {
-        Ok(()) => Ok(Plan {
-            sizes,
-            granted: header.steps,
-        }),
-        Err(why) => Err(Refused::Rest(why)),
-    }
+    Ok(Plan { sizes, granted })
 }

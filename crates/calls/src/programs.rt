@@ -5,35 +5,17 @@ ghost use Rattle.calls.specs.Plan.{wanted_as};
 
 use crate::answer::{Answer, answer_by};
 use crate::memory::Memory;
-use crate::plan::Refused;
-use formats::field::read_field;
-use formats::sizes;
+use crate::plan::{Refused, ask};
 use formats::sizes::{Room, wanted};
 use machine::inturn::InTurn;
 use machine::replay::Scripted;
 use machine::script::Written;
-use reader::texts::read;
 
 // How long the lent slices have to be for a text and a field's bytes.
 pub fn room_for(text: &[u8], bytes: &[u8]) -> Result<Room, Refused>
     ensures { result ≡ wanted_as text.now bytes.now }
 {
-    let shape = match read(text) {
-        Ok(shape) => shape,
-        Err(why) => return Err(Refused::Text(why)),
-    };
-    let header = match read_field(bytes) {
-        Ok(header) => header,
-        Err(why) => return Err(Refused::Rest(why)),
-    };
-    Ok(wanted(sizes::Shape {
-        lines: shape.lines,
-        groups: header.groups,
-        lanes: header.lanes,
-        owns: shape.owns,
-        shared: shape.cells,
-        field: header.cells,
-    }))
+    Ok(wanted(ask(text, bytes)?.shape))
 }
 
 // One lane after the other, each up to its next barrier.

@@ -1,4 +1,4 @@
-// What the machine's verdict is in print.
+// What the machine's verdict is in print. Functions, and no impl of `From`: the types on both sides are of other crates.
 ghost use Rattle.std.specs.Prelude.{◌≡◌, ℕ, List};
 ghost use Rattle.formats.specs.Meaning.{meant};
 ghost use Rattle.machine.specs.Verdict.{told_of};

@@ -1,11 +1,12 @@
-use Rattle.calls.proofs.Planning.{wanted-text, wanted-field, wanted-both}
+use Rattle.std.proofs.lemmas.Result.{err_from_is_err_and}
+use Rattle.calls.specs.Plan.{wanted_as}
+use Rattle.calls.proofs.Planning.{wants, wants-none}
 use Rattle.calls.proofs.programs.room_for.Goals as goal
 
-pub returns-in-Err : goal.returns-in-Err
-returns-in-Err c = wanted-text c.args.text.now c.args.bytes.now c.in-Err.why c.in-Err.ensures.walk
-
-pub returns-in-Err-read_field : goal.returns-in-Err-read_field
-returns-in-Err-read_field c = wanted-field c.args.text.now c.args.bytes.now c.in-Ok.shape c.in-Err-read_field.why c.in-Ok.ensures.walk c.in-Err-read_field.ensures.value
+pub returns-in_err-ask : goal.returns-in_err-ask
+unfolding wanted_as
+returns-in_err-ask c = let p = err_from_is_err_and c.from_residual.result c.from_residual.ensures.1 in rw (p.1, p.2) (wants-none _ _ _ c.in_err-ask.ensures.is)
 
 pub returns : goal.returns
-returns c = wanted-both c.args.text.now c.args.bytes.now c.in-Ok.shape c.in-Ok-read_field.header c.wanted.result c.in-Ok.ensures.walk c.in-Ok-read_field.ensures.value c.wanted.ensures.value
+unfolding wanted_as
+returns c = rw c.wanted.ensures.value (wants _ _ _ c.in_ok-ask.ensures.is)

@@ -36,6 +36,7 @@ pub fn judge<S: Scheduler>(
     ensures shown { (ns : List (List ℕ)) (p : Program) → For ns p z text.now lent.old.steps.now → (ts : List Turn) × Shows granted z.lanes (begin p z.groups z.lanes (cells_read bytes.now z.field)) ts (told_of result (field_of z lent.new.cells.now)) }
 {
     let lines = load(text, bytes, z, lent);
+    // Taken out first: it can't be read from behind `lent` while others are written there.
     let steps = &mut *lent.steps;
     run_turns(
         s, text, steps, lines, z, lent.lanes, lent.cells, lent.marks, granted,

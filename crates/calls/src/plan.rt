@@ -21,7 +21,8 @@ pub struct Plan {
     pub granted: u64,
 }
 
-#[derive(Clone, Copy)]
+// Why a text, a field's bytes or the lent slices are refused.
+#[derive(Clone, Copy, PartialEq, Eq, Debug)]
 pub enum Refused {
     // the text
     Text(refusals::Refusal),
@@ -104,6 +105,7 @@ pub(crate) fn ask(text: &[u8], bytes: &[u8]) -> Result<Asked, Refused>
     })
 }
 
+// The plan for them in the lent slices, if these are long enough.
 pub fn make_plan(text: &[u8], bytes: &[u8], room: Room) -> Result<Plan, Refused>
     ensures is { result ≡ planned text.now bytes.now room }
     ensures known { IfOk result (λ p. Plans text.now bytes.now room p) }

@@ -1,6 +1,5 @@
 -- What is taken and what is refused, step by step.
 use Rattle.std.proofs.Common.{◌≡◌, ℕ, ◌≤◌, List, Ok, Err, Result, refl, ap, ◌∙◌, arith}
-use Rattle.std.proofs.lemmas.Bool.Decides.{nat_tests}
 use Rattle.grammar.specs.declared.refusals.Refusal as texts
 use Rattle.reader.specs.declared.texts.Shape.{Shape}
 use Rattle.reader.specs.Texts.{ReadAs, read_at}
@@ -16,7 +15,7 @@ use Rattle.calls.specs.declared.plan.Plan.{Plan}
 use Rattle.calls.specs.declared.plan.Refused.{Refused}
 use Rattle.calls.specs.Plan.{asked, asked_of, asked_by, plan_of_spec, checked, prepared, wanted_by, Plans}
 
--- who is refused what is asked for is refused
+-- refused of the text or the field, whatever is lent
 pub refused : (r : Result Shape texts.Refusal) (f : Result Header fields.Refusal) (room : Room) (e : Refused) → Err e ≡ asked_by r f → Err e ≡ prepared r f room
 refused (Err t) f room e p = cc
 refused (Ok s) (Err t) room e p = cc
@@ -46,33 +45,6 @@ plan-sized text bytes s h read field =
       owns = omega (arith, t.few_names, t.spelled.owned, read.owns);
       shared = omega (arith, t.few_cells, read.cells);
       field = i.cells_few;
-    }
-
--- slices that are not refused are long enough
-record Enough (w r : Room) : Type 0 where
-  steps_fit : w.steps ≤ r.steps
-  lanes_fit : w.lanes ≤ r.lanes
-  cells_fit : w.cells ≤ r.cells
-  touches_fit : w.touches ≤ r.touches
-  printed_fit : w.printed ≤ r.printed
-
-enough : (w r : Room) (u : Unit {0}) → Ok u ≡ check_as w r → Enough w r
-enough w r u e = record { steps_fit = grind (arith, nat_tests); lanes_fit = grind (arith, nat_tests); cells_fit = grind (arith, nat_tests); touches_fit = grind (arith, nat_tests); printed_fit = grind (arith, nat_tests) }
-
-pub plans : (text bytes : List ℕ) (room : Room) (s : Shape) (h : Header) (u : Unit {0}) → ReadAs text s → IsField bytes h → Ok u ≡ check_as (wanted_for (asked s h)) room → Plans text bytes room (plan_of_spec s h)
-plans text bytes room s h u a b c =
-    let f = enough (wanted_for (asked s h)) room u c in
-    record {
-      shape = s;
-      header = h;
-      read = a;
-      field = b;
-      plan = refl;
-      steps_fit = f.steps_fit;
-      lanes_fit = f.lanes_fit;
-      cells_fit = f.cells_fit;
-      touches_fit = f.touches_fit;
-      printed_fit = f.printed_fit;
     }
 
 -- how long the slices have to be

@@ -58,9 +58,7 @@ pub fn rewrite_shown(rt: &HostRuntime, text: &[u8]) -> io::Result<()>
     match read(text) {
         Ok(_) => {
             let mut out = vec![in rt.alloc(); 0u8; text.len()]?;
-            let len = rewrite(text, out.as_mut_slice())
-                .unwrap_or(0)
-                .min(out.len());
+            let len = rewrite(text, out.as_mut_slice()).unwrap();
             rt.stdout().write_all(&out.as_slice()[..len])
         }
         Err(why) => {

@@ -38,15 +38,8 @@ pub fn any_text(
     ensures answered { Answered text.now bytes.now (slices_of lent.old) (slices_of lent.new) result }
 {
     let mut scripted = Scripted {
-        turns,
-        from: 0,
+        turns: turns.iter(),
         rest: InTurn { group: 0, lane: 0 },
     };
-    let answer = answer_by(&mut scripted, text, bytes, lent);
-    let Scripted {
-        turns: _,
-        from: _,
-        rest: _,
-    } = scripted;
-    answer
+    answer_by(&mut scripted, text, bytes, lent)
 }

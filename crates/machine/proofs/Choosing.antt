@@ -1,5 +1,5 @@
 -- A choice is done: what came of a row's line, or of a group that goes on.
-use Rattle.std.proofs.Common.{◌≡◌, ℕ, zero, suc, ◌+◌, ◌-◌, ◌<◌, ◌≤◌, true, List, [], ◌∷◌, ◌++◌, length, sym, refl, ap, ◌∙◌, subst, inl, inr, append-nil, add-zero, arith}
+use Rattle.std.proofs.Common.{◌≡◌, ℕ, zero, suc, ◌+◌, ◌-◌, ◌<◌, ◌≤◌, true, List, [], ◌∷◌, ◌++◌, length, sym, refl, ap, ◌∙◌, subst, inl, inr, append-nil, add-zero, arith, Ok, Err}
 use Rattle.std.proofs.lemmas.Bool.{cases_eq}
 use Rattle.lanes.specs.Syntax.{Body}
 use Rattle.lanes.specs.Grid.{Grid, Turn, of, release, can, turn, turns, marked, marks_at, steps}
@@ -9,22 +9,30 @@ use Rattle.grammar.specs.Spelling.{Named}
 use Rattle.code.specs.Words.{step_at}
 use Rattle.store.specs.declared.Sizes.{Sizes}
 use Rattle.store.specs.Layout.{Sized}
-use Rattle.store.specs.Lent.{Lined, line_at, phase_of_spec, grid_of}
+use Rattle.store.specs.Lent.{Lined, line_at, phase_of_spec, field_of, grid_of}
 use Rattle.store.proofs.Slots.{phase-same}
 use Rattle.machine.specs.declared.schedule.Choice.TheVariants.{Row, GoOn}
-use Rattle.machine.specs.declared.outcome.Outcome.TheVariants.{Fine}
-use Rattle.machine.specs.Sofar.{Sofar}
-use Rattle.machine.specs.Line.{Loaded, Runs, on, lanes_in, row_turns}
+use Rattle.machine.specs.declared.outcome.Stopped.{Stopped}
+use Rattle.machine.specs.declared.outcome.Stopped.TheVariants.{Raced, Wrong}
+use Rattle.machine.specs.Sofar.{Sofar, After}
+use Rattle.masks.specs.Masks.{on, lanes_in}
+use Rattle.machine.specs.Line.{Loaded, Runs, row_turns}
 use Rattle.machine.specs.Schedule.{RowCan}
 use Rattle.machine.specs.Plans.{RowRan}
 use Rattle.machine.specs.Moves.{WentOn}
-use Rattle.machine.specs.Verdict.{barriers, highest, StandsAt, WentTo}
+use Rattle.machine.specs.Verdict.{told_of, told_at, barriers, highest, StandsAt, WentTo}
 use Rattle.machine.proofs.Rows.{grid-more, marked_more, steps-more, right-released}
 use Rattle.machine.proofs.Counting.{row-steps}
 use Rattle.machine.proofs.Bounds.{few-barriers, highest-more}
 
 pub runs-from : (ns : List (List ℕ)) (text steps : List ℕ) (lines : ℕ) (z : Sizes) (at : ℕ → Body) (ls : List ℕ) → Loaded ns text steps lines z at → Lined z (suc lines) ls → Runs z at steps lines ls
 runs-from ns text steps lines z at ls k h = record { ns = ns; text = text; owns = length ns; coded = k.coded; lined = h }
+
+-- what stops a row of turns is told
+pub shows-stopped : (z : Sizes) (at : ℕ → Body) (d : Grid) (us : List Turn) (ls cs ks : List ℕ) (granted : ℕ) (x : Stopped) → After z at d us ls cs ks (Err x) →
+    Shows granted z.lanes d us (told_of (told_at x) (field_of z cs))
+shows-stopped z at d us ls cs ks granted (Raced r) h = h granted
+shows-stopped z at d us ls cs ks granted (Wrong g l i) h = h granted
 
 some_lanes : (mask i k : ℕ) → i < k → on mask i ≡ true → 1 ≤ lanes_in mask k
 unfolding lanes_in
@@ -55,7 +63,7 @@ module _ (ns : List (List ℕ)) (text steps-words : List ℕ) (lines : ℕ) (z :
   unfolding Shows
   shows-long granted g start mask can-row h k = let q = row-steps-from g start mask can-row in omega arith
 
-  module _ (ls' cs' ks' : List ℕ) (granted g start mask : ℕ) (can-row : RowCan z at ls cs g start mask) (ran : RowRan z at (suc lines) ls cs ks ls' cs' ks' g start mask Fine) where
+  module _ (ls' cs' ks' : List ℕ) (granted g start mask : ℕ) (can-row : RowCan z at ls cs g start mask) (ran : RowRan z at (suc lines) ls cs ks ls' cs' ks' g start mask (Ok tt)) where
     same-phases : (h : ℕ) → phase_of_spec z ls' h ≡ phase_of_spec z ls h
     same-phases h = let some = sized.some_lane in phase-same z ls ls' h (ran.words h 2 0 (omega arith) (omega arith) (omega arith)) (ran.words h 3 0 (omega arith) (omega arith) (omega arith))
 

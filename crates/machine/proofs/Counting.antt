@@ -1,37 +1,12 @@
--- How many lanes are in a mask, and that its row of turns has as many steps.
+-- The row of turns of a mask has as many steps as the mask has lanes.
 use Rattle.std.proofs.Common.{◌≡◌, ℕ, zero, suc, ◌+◌, ◌<◌, ◌≤◌, Bool, true, false, cond, [], ◌∷◌, length, sym, refl, ap, ◌∙◌, inl, inr, append-nil, add-zero, add-one, arith, length-append}
 use Rattle.lanes.specs.Grid.{Grid, of, can, turns, steps}
 use Rattle.lanes.specs.Promise.{Apart}
 use Rattle.lanes.proofs.Turns.{turns-append, steps-append, steps-did}
 use Rattle.std.proofs.lemmas.Bool.{cases_Bool}
-use Rattle.machine.specs.Line.{on, lanes_in, row_turns}
+use Rattle.masks.specs.Masks.{on, lanes_in}
+use Rattle.machine.specs.Line.{row_turns}
 use Rattle.machine.proofs.Passing.{turn-can}
-
-pub lanes-none : (mask : ℕ) → lanes_in mask 0 ≡ 0
-unfolding lanes_in
-lanes-none mask = refl
-
-pub lanes_on : (mask i : ℕ) → on mask i ≡ true → lanes_in mask (i + 1) ≡ lanes_in mask i + 1
-unfolding lanes_in
-lanes_on mask i e = rw (add-one, e)
-
-pub lanes-off : (mask i : ℕ) → on mask i ≡ false → lanes_in mask (i + 1) ≡ lanes_in mask i
-unfolding lanes_in
-lanes-off mask i e = rw (add-one, e) (add-zero (lanes_in mask i))
-
-pub lanes-one : lanes_in 1 32 ≡ 1
-unfolding lanes_in
-lanes-one = refl
-
--- as many turns as lanes
-pub row-length : (g start mask i : ℕ) → length (row_turns g start mask i) ≡ lanes_in mask i
-unfolding row_turns lanes_in
-row-length g start mask zero = refl
-row-length g start mask (suc i) = length-append (row_turns g start mask i) _ ∙ (ap (λ (k : ℕ). k + length (cond (on mask i) (of g (start + i) ∷ []) [])) (row-length g start mask i) ∙ ap (λ (k : ℕ). lanes_in mask i + k) (by (on mask i)))
-  where
-    by : (b : Bool) → length (cond b (of g (start + i) ∷ []) []) ≡ cond b 1 0
-    by true = refl
-    by false = refl
 
 apart_of : (g start i k : ℕ) → suc i ≤ k → Apart (of g (start + i)) (of g (start + k))
 unfolding Apart

@@ -3,6 +3,7 @@ mod Marks
 mod Noted
 mod Stances
 mod Masked
+mod Ranges
 mod Passing
 mod Ones
 mod Settling

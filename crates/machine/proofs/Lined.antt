@@ -1,5 +1,5 @@
 -- A line for a mask, from the entry at which its lanes stand.
-use Rattle.std.proofs.Common.{◌≡◌, ℕ, zero, suc, ◌+◌, ◌<◌, ◌≤◌, true, false, ◌⊎◌, List, [], ◌++◌, get_or, Some, None, sym, refl, ap, ◌∙◌, subst, inl, inr, append-nil, le_of_eq, arith}
+use Rattle.std.proofs.Common.{◌≡◌, ℕ, zero, suc, ◌+◌, ◌<◌, ◌≤◌, true, false, ◌⊎◌, List, [], ◌++◌, get_or, Some, None, sym, refl, ap, ◌∙◌, subst, inl, inr, append-nil, le_of_eq, arith, Ok, Err}
 use Rattle.std.proofs.lemmas.Bool.{cases_Bool, both_ways, and_parts}
 use Rattle.lanes.specs.Syntax.{Body, end}
 use Rattle.lanes.specs.Step.{value, stepping, Lane}
@@ -15,10 +15,10 @@ use Rattle.store.specs.Lent.{own_of, lane_at, grid_of}
 use Rattle.store.specs.Acts.{NextIs, Ready}
 use Rattle.store.proofs.Grids.{the-lane-is}
 use Rattle.machine.specs.declared.line.Plan.{Plan}
-use Rattle.machine.specs.declared.outcome.Outcome.{Outcome}
-use Rattle.machine.specs.declared.outcome.Outcome.TheVariants.{Fine, Raced, Wrong}
-use Rattle.machine.specs.Sofar.{Sofar}
-use Rattle.machine.specs.Line.{on, row_turns, Loaded, Masked, LineDone}
+use Rattle.machine.specs.declared.outcome.Stopped.TheVariants.{Raced, Wrong}
+use Rattle.machine.specs.Sofar.{Sofar, Outcome}
+use Rattle.masks.specs.Masks.{on}
+use Rattle.machine.specs.Line.{row_turns, Loaded, Masked, LineDone}
 use Rattle.machine.specs.Masks.{ReadyRow, RowOutcome, Ends}
 use Rattle.machine.specs.Plans.{plan_of_spec, Worked, SecondWorked, RowIn, LineOutcome}
 use Rattle.machine.proofs.Planned.{plan-goes, no-plan, next_is, last_end, Second}
@@ -30,7 +30,7 @@ no-turns g start mask zero h none = refl
 no-turns g start mask (suc n) h none = rw (none n (omega arith), no-turns g start mask n (omega arith) none) refl
 
 pub idle : (z : Sizes) (at : ℕ → Body) (lines : ℕ) (ls cs ks : List ℕ) (g start mask : ℕ) → ((i : ℕ) → i < 32 → on mask i ≡ false) →
-    LineOutcome z at lines ls cs ks ls cs ks g start mask Fine
+    LineOutcome z at lines ls cs ks ls cs ks g start mask (Ok tt)
 unfolding turns steps
 idle z at lines ls cs ks g start mask none =
     let e = no-turns g start mask 32 (omega arith) none in
@@ -114,10 +114,10 @@ module _ (z : Sizes) (at : ℕ → Body) (words : List ℕ) (lines : ℕ) (ls cs
         }
 
 -- what that is for the machine's row of turns
-pub all-fine : (g start mask many : ℕ) (r : Outcome) → Ends g start mask many r → r ≡ Fine → many ≡ 32
-all-fine g start mask many Fine e f = e
-all-fine g start mask many (Raced x) e f = absurd (let q : ◌≡◌ {A = ℕ} 0 1 = cc in omega arith)
-all-fine g start mask many (Wrong h l i) e f = absurd (let q : ◌≡◌ {A = ℕ} 0 1 = cc in omega arith)
+pub all-fine : (g start mask many : ℕ) (r : Outcome) → Ends g start mask many r → r ≡ Ok tt → many ≡ 32
+all-fine g start mask many (Ok u) e f = e
+all-fine g start mask many (Err (Raced x)) e f = absurd (let q : ◌≡◌ {A = ℕ} 0 1 = cc in omega arith)
+all-fine g start mask many (Err (Wrong h l i)) e f = absurd (let q : ◌≡◌ {A = ℕ} 0 1 = cc in omega arith)
 
 pub line-done : (z : Sizes) (at : ℕ → Body) (lines : ℕ) (ls cs ks ls' cs' ks' : List ℕ) (g start mask : ℕ) (r : Outcome) (d : Grid) (ts : List Turn) →
     LineOutcome z at lines ls cs ks ls' cs' ks' g start mask r → Sofar z at d ts ls cs ks → LineDone z at d ts g start mask ls' cs' ks' r

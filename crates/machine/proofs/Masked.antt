@@ -1,5 +1,5 @@
 -- A line for a mask is the steps of its lanes.
-use Rattle.std.proofs.Common.{◌≡◌, ℕ, ◌+◌, ◌<◌, true, false, List, [], ◌∷◌, ◌++◌, get_or, sym, refl, ap, ◌∙◌, subst, append_assoc, append-nil, add-one, arith}
+use Rattle.std.proofs.Common.{◌≡◌, ℕ, ◌+◌, ◌<◌, true, false, List, [], ◌∷◌, ◌++◌, get_or, sym, refl, ap, ◌∙◌, subst, append_assoc, append-nil, add-one, arith, Ok, Err}
 use Rattle.std.proofs.lemmas.List.{length_push}
 use Rattle.lanes.specs.Syntax.{Body, end}
 use Rattle.lanes.specs.Grid.{Grid, Turn, of, can, turn, turns, steps}
@@ -9,10 +9,11 @@ use Rattle.store.specs.Layout.{Sized, slots}
 use Rattle.store.specs.Lent.{slot_of, line_at, own_of, grid_of, phase_of_spec}
 use Rattle.store.specs.Acts.{Ready}
 use Rattle.store.proofs.Slots.{own_same, phase-same}
-use Rattle.machine.specs.declared.outcome.Outcome.{Outcome}
-use Rattle.machine.specs.declared.outcome.Outcome.TheVariants.{Fine, Raced, Wrong}
-use Rattle.machine.specs.Sofar.{Sofar, After, Names}
-use Rattle.machine.specs.Line.{on, row_turns}
+use Rattle.machine.specs.declared.outcome.Stopped.{Stopped}
+use Rattle.machine.specs.declared.outcome.Stopped.TheVariants.{Raced, Wrong}
+use Rattle.machine.specs.Sofar.{Sofar, After, Names, Outcome}
+use Rattle.masks.specs.Masks.{on}
+use Rattle.machine.specs.Line.{row_turns}
 use Rattle.machine.specs.Masks.{LaneDid, ReadyRow, RowDid, Ends, RowOutcome, RowSofar}
 use Rattle.machine.proofs.Rows.{grid-more, steps-more}
 
@@ -91,18 +92,22 @@ module _ (z : Sizes) (ls cs ks : List ℕ) (g start mask stop : ℕ) (todo : Tod
           rw (row_turns-on g start mask i e, ← append_assoc ts (row_turns g start mask i) (of g (start + i) ∷ []))
           (lane.after at d (ts ++ row_turns g start mask i) ends (still-ready at ready) (far.sofar at d ts ends ready s))
 
-      pub row_on : r ≡ Fine → RowSofar z ls cs ks ls'' cs'' ks'' g start mask stop todo xs ys (i + 1)
+      pub row_on : r ≡ Ok tt → RowSofar z ls cs ks ls'' cs'' ks'' g start mask stop todo xs ys (i + 1)
       row_on fine = record { did = did-on; sofar = λ at d ts ends ready s. subst (After z at d (ts ++ row_turns g start mask (i + 1)) ls'' cs'' ks'') fine (after_on at d ts ends ready s) }
 
-      pub row-stop : (r ≡ Fine → ⊥) → RowOutcome z ls cs ks ls'' cs'' ks'' g start mask stop todo xs ys r
-      row-stop stopped = record { many = i + 1; ends = by r lane.names stopped; did = did-on; after = after_on }
+      pub row-stop : (x : Stopped) → r ≡ Err x → RowOutcome z ls cs ks ls'' cs'' ks'' g start mask stop todo xs ys (Err x)
+      row-stop x stopped = record {
+        many = i + 1;
+        ends = by x (subst (Names g (start + i)) stopped lane.names);
+        did = did-on;
+        after = λ at d ts ends ready s. subst (After z at d (ts ++ row_turns g start mask (i + 1)) ls'' cs'' ks'') stopped (after_on at d ts ends ready s);
+      }
         where
-          by : (q : Outcome) → Names g (start + i) q → (q ≡ Fine → ⊥) → Ends g start mask (i + 1) q
-          by Fine n f = absurd (f refl)
-          by (Raced x) n f = (i, hi, add-one i, e)
-          by (Wrong h l k) n f = (i, hi, add-one i, e, n.0, n.1)
+          by : (q : Stopped) → Names g (start + i) (Err q) → Ends g start mask (i + 1) (Err q)
+          by (Raced y) n = (i, hi, add-one i, e)
+          by (Wrong h l k) n = (i, hi, add-one i, e, n.0, n.1)
 
-  pub row-all : (ls' cs' ks' : List ℕ) → RowSofar z ls cs ks ls' cs' ks' g start mask stop todo xs ys 32 → RowOutcome z ls cs ks ls' cs' ks' g start mask stop todo xs ys Fine
+  pub row-all : (ls' cs' ks' : List ℕ) → RowSofar z ls cs ks ls' cs' ks' g start mask stop todo xs ys 32 → RowOutcome z ls cs ks ls' cs' ks' g start mask stop todo xs ys (Ok tt)
   row-all ls' cs' ks' far = record { many = 32; ends = refl; did = far.did; after = far.sofar }
 
   pub row-phase : (ls' cs' ks' : List ℕ) (i : ℕ) → Sized z → RowSofar z ls cs ks ls' cs' ks' g start mask stop todo xs ys i → phase_of_spec z ls' g ≡ phase_of_spec z ls g

@@ -76,30 +76,26 @@ module _ (z : Sizes) (at : ℕ → Body) (d : Grid) (ts : List Turn) (ls cs ks l
       let same : marked z.lanes d (ts ++ (of g l ∷ [])) ≡ marked z.lanes d ts = marked-is Quiet k ∙ append-nil (marked z.lanes d ts) in
       record { grid = grid-is Quiet k; kept = rw same k.sofar.kept; no_race = rw same k.sofar.no_race; none_wrong = right-now Quiet k refl }
 
-  module _ (s : Seen) (who : Who) (k : Doing z at d ts ls cs ks ls' cs' g l p (Touched s)) (eg : who.group ≡ g) (el : who.lane ≡ l) (ep : who.phase ≡ p) where
-    new : Mark
-    new = mark_of (numbered s.place) s.cell who s.wrote
-
-    mark-is : marks g l p (touches_of (Touched s)) ≡ mark_of (numbered s.place) s.cell who s.wrote ∷ []
-    unfolding marks
-    mark-is = rw (sym eg, sym el, sym ep)
+  module _ (s : Seen) (i : ℕ) (k : Doing z at d ts ls cs ks ls' cs' g l p (Touched s)) where
+    -- who touched
+    abbrev pub who : Who
+    who = record { group = g; lane = l; phase = p; line = i }
 
     marks-are : marked z.lanes d (ts ++ (of g l ∷ [])) ≡ marked z.lanes d ts ++ (mark_of (numbered s.place) s.cell who s.wrote ∷ [])
-    marks-are = marked-is (Touched s) k ∙ ap (λ (ms : List Mark). marked z.lanes d ts ++ ms) mark-is
+    unfolding marks
+    marks-are = marked-is (Touched s) k
 
-    phase-is : (the_group (turns z.lanes d ts) who.group).phase ≡ who.phase
-    phase-is =
-        ap (λ (i : ℕ). (the_group (turns z.lanes d ts) i).phase) eg
-        ∙ (ap (λ (e : Grid). (the_group e g).phase) (sym k.sofar.grid) ∙ (the-phase-is z at ls cs g k.group ∙ (sym k.phase ∙ sym ep)))
+    phase-is : (the_group (turns z.lanes d ts) g).phase ≡ p
+    phase-is = ap (λ (e : Grid). (the_group e g).phase) (sym k.sofar.grid) ∙ (the-phase-is z at ls cs g k.group ∙ sym k.phase)
 
     pub rising : Rising (marked z.lanes d ts) (mark_of (numbered s.place) s.cell who s.wrote)
     unfolding Rising
-    rising m i same =
-        let low : To (turns z.lanes d ts) m = among-all (To (turns z.lanes d ts)) m (marked z.lanes d ts) (marked-to z.lanes d ts) i in
-        let h : (the_group (turns z.lanes d ts) m.by_group).phase ≡ who.phase = ap (λ (i : ℕ). (the_group (turns z.lanes d ts) i).phase) same ∙ phase-is in
+    rising m i' same =
+        let low : To (turns z.lanes d ts) m = among-all (To (turns z.lanes d ts)) m (marked z.lanes d ts) (marked-to z.lanes d ts) i' in
+        let h : (the_group (turns z.lanes d ts) m.by_group).phase ≡ p = ap (λ (i : ℕ). (the_group (turns z.lanes d ts) i).phase) same ∙ phase-is in
         omega arith
 
-    pub keepable : who.line < 4294967296 → Keepable (layout z) (numbered s.place) s.cell s.index who ks
+    pub keepable : i < 4294967296 → Keepable (layout z) (numbered s.place) s.cell s.index who ks
     unfolding layout
     keepable hl =
         let few = k.sized.groups in let fewer = k.sized.lanes in let hg = k.group in let hl' = k.lane in

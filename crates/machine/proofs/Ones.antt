@@ -1,18 +1,21 @@
 -- A mask of one lane.
-use Rattle.std.proofs.Common.{◌≡◌, ℕ, zero, suc, ◌/◌, ◌%◌, ◌^◌, ◌<◌, true, eqb, List, [], ◌∷◌, Some, refl, ap, inl, inr, add-zero, arith}
+use Rattle.std.proofs.Common.{◌≡◌, ℕ, zero, suc, ◌/◌, ◌%◌, ◌^◌, ◌<◌, true, eqb, List, [], ◌∷◌, Some, refl, ap, inl, inr, add-zero, arith, false, None, Option, ◌⊎◌, sym, subst}
 use native.Mathlib.Nat.{div-eq_of_lt}
 use Rattle.std.proofs.lemmas.Nat.{pow_below}
-use Rattle.std.proofs.lemmas.Bool.{both_ways, cases_lt}
+use Rattle.std.proofs.lemmas.Bool.{both_ways, cases_lt, cases_Bool}
 use Rattle.machine.proofs.Stances.{can-outside}
 use Rattle.lanes.specs.Syntax.{Body}
 use Rattle.lanes.specs.Grid.{Grid, of, release, can, turns}
 use Rattle.store.specs.declared.Sizes.{Sizes}
 use Rattle.store.specs.Lent.{grid_of}
-use Rattle.machine.specs.Line.{on, row_turns}
+use Rattle.masks.specs.Masks.{on}
+use Rattle.machine.specs.Line.{row_turns}
 use Rattle.machine.specs.declared.schedule.Choice.{Choice}
 use Rattle.machine.specs.declared.schedule.Choice.TheVariants.{Row, GoOn}
 use Rattle.machine.specs.declared.inturn.InTurn.{InTurn}
-use Rattle.machine.specs.Schedule.{RowCan, Passed, Picked, Says, come_to}
+use Rattle.machine.specs.declared.script.Written.{Written}
+use Rattle.machine.specs.declared.script.Written.TheVariants.{Of, Release}
+use Rattle.machine.specs.Schedule.{RowCan, Passed, Picked, Says, come_to, CanDo, named}
 use Rattle.machine.proofs.Passing.{passed-step, passed-go}
 
 pub one_on : (i : ℕ) → on 1 i ≡ true → i ≡ 0
@@ -59,3 +62,16 @@ step_in z at ls cs g l e = (
   elim (cases_lt g z.groups) [ inl h ↦ h | inr h ↦ absurd (both_ways _ (can-outside z at ls cs g l (inl h)) e) ],
   elim (cases_lt l z.lanes) [ inl h ↦ h | inr h ↦ absurd (both_ways _ (can-outside z at ls cs g l (inr h)) e) ],
 )
+
+-- what a written turn names can be done
+pub named-can : (z : Sizes) (at : ℕ → Body) (ls cs : List ℕ) (w : Written) (c : Choice) → Some c ≡ named z.lanes (grid_of z at ls cs) w → CanDo z at ls cs c
+named-can z at ls cs (Of g l) c e = by (cases_Bool (can z.lanes (grid_of z at ls cs) (of g l)))
+  where
+    by : (can z.lanes (grid_of z at ls cs) (of g l) ≡ true) ⊎ (can z.lanes (grid_of z at ls cs) (of g l) ≡ false) → CanDo z at ls cs c
+    by (inl t) = let q : c ≡ Row g l 1 = cc (rw t at e) in let there = step_in z at ls cs g l t in rw q (one-can z at ls cs g l 1 refl there.0 there.1 t)
+    by (inr f) = let q : ◌≡◌ {A = Option Choice} (Some c) None = rw f at e in cc
+named-can z at ls cs (Release g) c e = by (cases_Bool (can z.lanes (grid_of z at ls cs) (release g)))
+  where
+    by : (can z.lanes (grid_of z at ls cs) (release g) ≡ true) ⊎ (can z.lanes (grid_of z at ls cs) (release g) ≡ false) → CanDo z at ls cs c
+    by (inl t) = let q : c ≡ GoOn g = cc (rw t at e) in rw q t
+    by (inr f) = let q : ◌≡◌ {A = Option Choice} (Some c) None = rw f at e in cc

@@ -1,15 +1,15 @@
 -- The lanes of a mask do the line where the jumps of theirs lead.
-use Rattle.std.proofs.Common.{◌≡◌, ℕ, suc, ◌+◌, ◌<◌, ◌≤◌, true, List, ◌++◌, length, sym, ap, ◌∙◌, subst, arith}
+use Rattle.std.proofs.Common.{◌≡◌, ℕ, suc, ◌+◌, ◌<◌, ◌≤◌, true, List, ◌++◌, length, sym, ap, ◌∙◌, subst, arith, Ok, Err}
 use Rattle.std.proofs.lemmas.Bool.{both_ways}
 use Rattle.lanes.specs.Syntax.{Body}
 use Rattle.lanes.specs.Grid.{Grid, Turn, of, can, turns, steps}
 use Rattle.store.specs.declared.Sizes.{Sizes}
 use Rattle.store.specs.Lent.{line_at, grid_of, Lined}
-use Rattle.machine.specs.declared.outcome.Outcome.{Outcome}
-use Rattle.machine.specs.declared.outcome.Outcome.TheVariants.{Fine, Raced, Wrong}
+use Rattle.machine.specs.declared.outcome.Stopped.TheVariants.{Raced, Wrong}
 use Rattle.machine.specs.Masks.{Ends}
-use Rattle.machine.specs.Sofar.{Sofar}
-use Rattle.machine.specs.Line.{on, row_turns, Loaded, Masked, LineDone}
+use Rattle.machine.specs.Sofar.{Sofar, Outcome}
+use Rattle.masks.specs.Masks.{on}
+use Rattle.machine.specs.Line.{row_turns, Loaded, Masked, LineDone}
 use Rattle.machine.specs.Schedule.{RowCan}
 use Rattle.machine.specs.Plans.{RowIn, RowThere, RowSettled, RowRan, LineOutcome}
 use Rattle.machine.proofs.Lined.{all-fine}
@@ -58,9 +58,9 @@ module _ (z : Sizes) (at : ℕ → Body) (words text : List ℕ) (lines : ℕ) (
       }
     where
       few : (many : ℕ) (q : Outcome) → Ends g start mask many q → (j : ℕ) → j < many → j < 32
-      few many Fine e j h = omega arith
-      few many (Raced x) e j h = let a = e.1 in let b = e.2 in omega arith
-      few many (Wrong x y i) e j h = let a = e.1 in let b = e.2 in omega arith
+      few many (Ok u) e j h = omega arith
+      few many (Err (Raced x)) e j h = let a = e.1 in let b = e.2 in omega arith
+      few many (Err (Wrong x y i)) e j h = let a = e.1 in let b = e.2 in omega arith
 
 pub ran-done : (z : Sizes) (at : ℕ → Body) (lines : ℕ) (ls cs ks ls' cs' ks' : List ℕ) (g start mask : ℕ) (r : Outcome) (d : Grid) (ts : List Turn) →
     RowRan z at lines ls cs ks ls' cs' ks' g start mask r → Sofar z at d ts ls cs ks → LineDone z at d ts g start mask ls' cs' ks' r

@@ -1,5 +1,6 @@
 -- Turns that are written down: what stands at a byte is one thing at most.
-use Rattle.std.proofs.Common.{◌≡◌, ℕ, ◌+◌, ◌-◌, ◌<◌, ◌≤◌, ◌⊎◌, List, [], ◌∷◌, ◌++◌, length, get_or, take, drop, Some, None, Ok, Err, codes, Option, sym, refl, ap, ◌∙◌, subst, inl, inr, arith, lit≤, MatchOption, SomeIff}
+use Rattle.std.proofs.Common.{◌≡◌, ℕ, ◌+◌, ◌-◌, ◌<◌, ◌≤◌, ◌⊎◌, List, [], ◌∷◌, ◌++◌, length, get_or, take, drop, Some, None, Ok, Err, codes, Option, sym, refl, ap, ◌∙◌, subst, inl, inr, arith, lit≤, MatchOption, SomeIff, Result}
+use Rattle.std.specs.Result.{result_ok}
 use Rattle.std.proofs.lemmas.List.{drop-drop, length-drop, length-append}
 use Rattle.grammar.specs.declared.refusals.Refusal.{Refusal}
 use Rattle.grammar.specs.Spelling.{digit, each_byte, decimal}
@@ -13,11 +14,15 @@ use Rattle.machine.specs.declared.script.Written.TheVariants.{Of, Release}
 use Rattle.machine.specs.declared.script.Reading.{Reading}
 use Rattle.machine.specs.Script.{DigitsHere, BytesHere, Plain, OfHere, ReleaseHere, TurnsAt, GoesOn, TurnHere, TurnsHere}
 
-pub behind-some : (t w : List ℕ) (i j : ℕ) → Ok j ≡ bytes_at t w i → BytesHere t w i j
+behind-some : (t w : List ℕ) (i j : ℕ) → Ok j ≡ bytes_at t w i → BytesHere t w i j
 behind-some t w i j e = bytes-sound t w i j (sym e)
 
-pub behind-none : (t w : List ℕ) (i : ℕ) (d : Refusal) → Plain w → Err d ≡ bytes_at t w i → (j : ℕ) → BytesHere t w i j → ⊥
+behind-none : (t w : List ℕ) (i : ℕ) (d : Refusal) → Plain w → Err d ≡ bytes_at t w i → (j : ℕ) → BytesHere t w i j → ⊥
 behind-none t w i d p e j h = not_err d (i + length w) (e ∙ bytes-done t i w (drop j t) p h.0)
+
+pub behind-is : (t w : List ℕ) (i : ℕ) → Plain w → (r : Result ℕ Refusal) → r ≡ bytes_at t w i → MatchOption (result_ok r) ((j : ℕ) → BytesHere t w i j → ⊥) (λ j. BytesHere t w i j)
+behind-is t w i p (Ok j) e = behind-some t w i j e
+behind-is t w i p (Err d) e = behind-none t w i d p e
 
 pub small-some : (t : List ℕ) (i e v : ℕ) → e ≡ i + run_of digit (drop i t) → SomeIff (Some v) (decimal 0 (take (run_of digit (drop i t)) (drop i t)) < 4294967296) (decimal 0 (take (run_of digit (drop i t)) (drop i t))) → i < e → DigitsHere t i v e
 small-some t i e v p q h = record {

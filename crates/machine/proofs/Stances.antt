@@ -1,5 +1,6 @@
 -- What the step where a lane stands says of what it can do.
-use Rattle.std.proofs.Common.{◌≡◌, ℕ, zero, suc, ◌<◌, ◌≤◌, Bool, true, false, ◌&&◌, ◌⊎◌, List, [], ◌∷◌, length, get_or, refl, subst, inl, inr, arith}
+use Rattle.std.proofs.Common.{◌≡◌, ℕ, zero, suc, ◌<◌, ◌≤◌, Bool, true, false, ◌&&◌, ◌⊎◌, List, [], ◌∷◌, length, get_or, sym, refl, subst, inl, inr, arith}
+use denote.Enum.Bare.{sameb}
 use Rattle.std.proofs.lemmas.Bool.{lt-ltb, both_ways}
 use Rattle.std.proofs.lemmas.Bool.Decides.{nat_tests}
 use Rattle.lanes.specs.Syntax.{Body, at_barrier, ended}
@@ -12,7 +13,21 @@ use Rattle.store.specs.declared.Sizes.{Sizes}
 use Rattle.store.specs.Lent.{grid_of, group_at, lane_at, line_at}
 use Rattle.store.proofs.Upto.{upto-at, upto-length}
 use Rattle.store.proofs.Grids.{the-group-is, the-lane-is, groups-long}
+use Rattle.machine.specs.declared.look.Stance.{Stance}
+use Rattle.machine.specs.declared.look.Stance.TheVariants.{Steps, Waits, Ended}
+use Rattle.machine.specs.contracts.look.Stance.{the_type}
 use Rattle.machine.specs.Choices.{StanceIs, stance_of_spec}
+
+-- what a comparison of stances says
+pub steps-is : (s : Stance) (b : Body) → StanceIs b s → sameb the_type s Steps ≡ stepping b
+steps-is Steps b h = sym h.0
+steps-is Waits b h = sym h.0
+steps-is Ended b h = sym h.0
+
+pub waits-is : (s : Stance) (b : Body) → StanceIs b s → sameb the_type s Waits ≡ at_barrier b
+waits-is Steps b h = sym h.1
+waits-is Waits b h = sym h.1
+waits-is Ended b h = sym h.1
 
 module _ (N : ℕ → List ℕ → Type 0) (text : List ℕ) (at : ℕ → Body) where
   does-stance : (s : Step) (b : Body) → is_jump s ≡ false → Does N text at s b → StanceIs b (stance_of_spec s)

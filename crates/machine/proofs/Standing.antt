@@ -4,7 +4,7 @@ use Rattle.std.proofs.lemmas.Bool.{cases_eq, both_ways}
 use Rattle.store.specs.declared.Sizes.{Sizes}
 use Rattle.store.specs.Layout.{slots}
 use Rattle.store.specs.Lent.{slot_of, line_at, Settled}
-use Rattle.machine.specs.Line.{on}
+use Rattle.masks.specs.Masks.{on}
 use Rattle.machine.specs.Plans.{RowStood}
 
 line-slot : (z : Sizes) (ls ls' : List ℕ) (g l : ℕ) → slot_of z ls' g 0 l ≡ slot_of z ls g 0 l → line_at z ls' g l ≡ line_at z ls g l

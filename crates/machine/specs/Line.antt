@@ -1,5 +1,5 @@
 -- A program as it lies in the lent slices, and a line that the lanes of a mask do.
-use Rattle.std.specs.Prelude.{◌≡◌, ℕ, zero, suc, ◌+◌, ◌*◌, ◌/◌, ◌%◌, ◌^◌, ◌<◌, ◌≤◌, Bool, true, cond, List, [], ◌∷◌, ◌++◌, length, ◌==◌}
+use Rattle.std.specs.Prelude.{◌≡◌, ℕ, zero, suc, ◌+◌, ◌*◌, ◌<◌, ◌≤◌, true, cond, List, [], ◌∷◌, ◌++◌, length, Ok}
 use Rattle.lanes.specs.Syntax.{Body}
 use Rattle.lanes.specs.Grid.{Grid, Turn, of, can}
 use Rattle.grammar.specs.Spelling.{Named}
@@ -9,9 +9,8 @@ use Rattle.code.specs.Code.{Coded, is_jump}
 use Rattle.store.specs.declared.Sizes.{Sizes}
 use Rattle.store.specs.Layout.{cells_room}
 use Rattle.store.specs.Lent.{Lent, Lined, line_at, grid_of}
-use Rattle.machine.specs.declared.outcome.Outcome.{Outcome}
-use Rattle.machine.specs.declared.outcome.Outcome.TheVariants.{Fine}
-use Rattle.machine.specs.Sofar.{After}
+use Rattle.masks.specs.Masks.{on}
+use Rattle.machine.specs.Sofar.{After, Outcome}
 
 -- The words of steps stand for the text: `at` is what is left at each of the entries and behind the last; own numbers are named ns.
 pub record Loaded (ns : List (List ℕ)) (text steps : List ℕ) (lines : ℕ) (z : Sizes) (at : ℕ → Body) : Type 0 where
@@ -34,16 +33,7 @@ pub record Runs (z : Sizes) (at : ℕ → Body) (steps : List ℕ) (lines : ℕ)
   pub coded : Coded (Named ns) text owns lines at (step_at steps lines)
   pub lined : Lined z (suc lines) ls
 
--- Bit i of a mask is for lane `first` + i.
-abbrev pub on : ℕ → ℕ → Bool
-on mask i = mask / 2 ^ i % 2 == 1
-
--- How many of the first i lanes are in the mask.
-unfoldable pub lanes_in : ℕ → ℕ → ℕ
-lanes_in mask zero = 0
-lanes_in mask (suc i) = lanes_in mask i + cond (on mask i) 1 0
-
--- The turns of those lanes, lowest first.
+-- The turns of the lanes in a mask among the first i, lowest first: bit i is for lane `first` + i.
 unfoldable pub row_turns : ℕ → ℕ → ℕ → ℕ → List Turn
 row_turns g first mask zero = []
 row_turns g first mask (suc i) = row_turns g first mask i ++ cond (on mask i) (of g (first + i) ∷ []) []
@@ -62,4 +52,4 @@ pub record Masked (z : Sizes) (at : ℕ → Body) (steps : List ℕ) (lines : �
 pub record LineDone (z : Sizes) (at : ℕ → Body) (d : Grid) (ts : List Turn) (g first mask : ℕ) (ls cs ks : List ℕ) (r : Outcome) : Type 0 where
   pub us : List Turn
   pub after : After z at d us ls cs ks r
-  pub all : r ≡ Fine → us ≡ ts ++ row_turns g first mask 32
+  pub all : r ≡ Ok tt → us ≡ ts ++ row_turns g first mask 32

@@ -1,5 +1,5 @@
 -- The lanes of a row that are in a mask do one line, one after the other, lowest first.
-use Rattle.std.specs.Prelude.{◌≡◌, ℕ, suc, ◌+◌, ◌<◌, ◌≤◌, true, List, [], ◌∷◌, ◌++◌, length, ◌≢◌, slice_index}
+use Rattle.std.specs.Prelude.{◌≡◌, ℕ, suc, ◌+◌, ◌<◌, ◌≤◌, true, List, [], ◌∷◌, ◌++◌, length, ◌≢◌, slice_index, Ok, Err}
 use Rattle.lanes.specs.Syntax.{Body, end}
 use Rattle.lanes.specs.Grid.{Grid, Turn, of, can, turn, turns, steps}
 use Rattle.store.specs.declared.Sizes.{Sizes}
@@ -7,10 +7,10 @@ use Rattle.store.specs.declared.Todo.{Todo}
 use Rattle.store.specs.Layout.{slots}
 use Rattle.store.specs.Lent.{slot_of, grid_of, Lined, Only}
 use Rattle.store.specs.Acts.{Ready, Goes}
-use Rattle.machine.specs.declared.outcome.Outcome.{Outcome}
-use Rattle.machine.specs.declared.outcome.Outcome.TheVariants.{Fine, Raced, Wrong}
-use Rattle.machine.specs.Sofar.{Sofar, After, Names}
-use Rattle.machine.specs.Line.{on, row_turns}
+use Rattle.machine.specs.declared.outcome.Stopped.TheVariants.{Raced, Wrong}
+use Rattle.machine.specs.Sofar.{Sofar, After, Names, Outcome}
+use Rattle.masks.specs.Masks.{on}
+use Rattle.machine.specs.Line.{row_turns}
 
 -- Lane l of group g did what it had to do next, and its touch was looked at: only what is its own has changed; its turn, which could
 -- be done, was done; and, from where the machine was with ts, what came of it is so.
@@ -42,9 +42,9 @@ pub record RowDid (z : Sizes) (ls cs ls' cs' : List ℕ) (g start mask stop : �
 -- How far the line came, by its outcome: to the row's end; or it stopped at a lane of the mask, which is named if it went wrong.
 -- The lanes of the mask before that one have done their step, and so has it, and none behind it has.
 abbrev pub Ends : ℕ → ℕ → ℕ → ℕ → Outcome → Type 0
-Ends g start mask i Fine = i ≡ 32
-Ends g start mask i (Raced r) = (j : ℕ) × (j < 32) × (i ≡ suc j) × (on mask j ≡ true)
-Ends g start mask i (Wrong h l k) = (j : ℕ) × (j < 32) × (i ≡ suc j) × (on mask j ≡ true) × (h ≡ g) × (l ≡ start + j)
+Ends g start mask i (Ok u) = i ≡ 32
+Ends g start mask i (Err (Raced r)) = (j : ℕ) × (j < 32) × (i ≡ suc j) × (on mask j ≡ true)
+Ends g start mask i (Err (Wrong h l k)) = (j : ℕ) × (j < 32) × (i ≡ suc j) × (on mask j ≡ true) × (h ≡ g) × (l ≡ start + j)
 
 -- The line was done for the mask: for as many of the row's lanes as `many` says.
 pub record RowOutcome (z : Sizes) (ls cs ks ls' cs' ks' : List ℕ) (g start mask stop : ℕ) (todo : Todo) (xs ys : List ℕ) (r : Outcome) : Type 0 where

@@ -16,9 +16,9 @@ use Rattle.store.specs.declared.Todo.TheVariants as todo
 use Rattle.store.specs.Layout.{slots}
 use Rattle.store.specs.Lent.{own_of, slot_of, line_at, grid_of, Lined}
 use Rattle.machine.specs.declared.line.Plan.{Plan}
-use Rattle.machine.specs.declared.outcome.Outcome.{Outcome}
-use Rattle.machine.specs.Sofar.{Sofar, After}
-use Rattle.machine.specs.Line.{on, row_turns}
+use Rattle.machine.specs.Sofar.{Sofar, After, Outcome}
+use Rattle.masks.specs.Masks.{on}
+use Rattle.machine.specs.Line.{row_turns}
 use Rattle.machine.specs.Masks.{Ends}
 
 -- What a step has a lane do, and the bytes of the text where its expressions stand; nothing at an else, at an end, at a barrier and

@@ -1,5 +1,6 @@
 -- What a scheduler names, and that it can be done.
 use Rattle.std.specs.Prelude.{◌≡◌, ℕ, ◌+◌, ◌<◌, true, false, ◌⊎◌, List, [], ◌∷◌, Some, None, Option}
+use Rattle.std.specs.Bool.{then_some}
 use Rattle.lanes.specs.Syntax.{Body}
 use Rattle.lanes.specs.Grid.{Grid, Turn, of, release, can, turns}
 use Rattle.lanes.specs.Promise.{Still}
@@ -8,7 +9,10 @@ use Rattle.store.specs.Lent.{line_at, grid_of}
 use Rattle.machine.specs.declared.schedule.Choice.{Choice}
 use Rattle.machine.specs.declared.schedule.Choice.TheVariants.{Row, GoOn}
 use Rattle.machine.specs.declared.inturn.InTurn.{InTurn}
-use Rattle.machine.specs.Line.{on, row_turns}
+use Rattle.machine.specs.declared.script.Written.{Written}
+use Rattle.machine.specs.declared.script.Written.TheVariants.{Of, Release}
+use Rattle.masks.specs.Masks.{on}
+use Rattle.machine.specs.Line.{row_turns}
 
 -- The turns that are named: those of the lanes in a mask, lowest first, or that a group goes on.
 abbrev pub turns_of : Choice → List Turn
@@ -58,3 +62,8 @@ Picked z at ls cs (Some (GoOn g)) = (g < z.groups) × (can z.lanes (grid_of z at
 abbrev pub come_to : Choice → InTurn
 come_to (Row g l mask) = record { group = g; lane = l }
 come_to (GoOn g) = record { group = g; lane = 0 }
+
+-- What a written turn names, if it can be done: that one lane of the group steps, or that the group goes on.
+abbrev pub named : ℕ → Grid → Written → Option Choice
+named n d (Of g l) = then_some (can n d (of g l)) (Row g l 1)
+named n d (Release g) = then_some (can n d (release g)) (GoOn g)

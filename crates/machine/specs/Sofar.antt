@@ -1,5 +1,5 @@
 -- The machine in the midst of its own row of turns, and what came of the turn that it did last.
-use Rattle.std.specs.Prelude.{◌≡◌, ℕ, ◌+◌, ◌*◌, ◌<◌, ◌≤◌, cond, ◌&&◌, ◌||◌, List, length, ◌==◌, nat_le, nat_lt}
+use Rattle.std.specs.Prelude.{◌≡◌, ℕ, ◌+◌, ◌*◌, ◌<◌, ◌≤◌, cond, ◌&&◌, ◌||◌, List, length, ◌==◌, nat_le, nat_lt, Result, Ok, Err}
 use Rattle.lanes.specs.Syntax.{Body}
 use Rattle.lanes.specs.Grid.{Grid, Turn, Mark, turns, marked}
 use Rattle.lanes.specs.Race.{Races}
@@ -15,8 +15,8 @@ use Rattle.touches.specs.declared.Found.{Found}
 use Rattle.touches.specs.Kept.{mark_of}
 use Rattle.touches.specs.Whole.{Layout, AllKept}
 use Rattle.machine.specs.declared.outcome.Race.{Race}
-use Rattle.machine.specs.declared.outcome.Outcome.{Outcome}
-use Rattle.machine.specs.declared.outcome.Outcome.TheVariants.{Fine, Raced, Wrong}
+use Rattle.machine.specs.declared.outcome.Stopped.{Stopped}
+use Rattle.machine.specs.declared.outcome.Stopped.TheVariants.{Raced, Wrong}
 
 -- The words of each cell's touches lie as the cells do.
 unfoldable pub layout : Sizes → Layout
@@ -38,16 +38,20 @@ abbrev pub second_mark : Race → Mark
 second_mark r = mark_of (numbered r.place) r.cell r.second.who r.second.wrote
 
 -- After the row of turns us: all is well so far, or us shows the race or the wrong lane that is named.
+-- What came of a turn or of turns: all is well, or the last of them is told.
+abbrev pub Outcome : Type 0
+Outcome = Result (Unit {0}) Stopped
+
 abbrev pub After : Sizes → (ℕ → Body) → Grid → List Turn → List ℕ → List ℕ → List ℕ → Outcome → Type 0
-After z at d us ls cs ks Fine = Sofar z at d us ls cs ks
-After z at d us ls cs ks (Raced r) = (most : ℕ) → Shows most z.lanes d us (races (first_mark r) (second_mark r))
-After z at d us ls cs ks (Wrong g l i) = (most : ℕ) → Shows most z.lanes d us (missing g l)
+After z at d us ls cs ks (Ok u) = Sofar z at d us ls cs ks
+After z at d us ls cs ks (Err (Raced r)) = (most : ℕ) → Shows most z.lanes d us (races (first_mark r) (second_mark r))
+After z at d us ls cs ks (Err (Wrong g l i)) = (most : ℕ) → Shows most z.lanes d us (missing g l)
 
 -- The lane that is named as wrong is lane l of group g.
 abbrev pub Names : ℕ → ℕ → Outcome → Type 0
-Names g l Fine = Unit {0}
-Names g l (Raced r) = Unit {0}
-Names g l (Wrong h k i) = (h ≡ g) × (k ≡ l)
+Names g l (Ok u) = Unit {0}
+Names g l (Err (Raced r)) = Unit {0}
+Names g l (Err (Wrong h k i)) = (h ≡ g) × (k ≡ l)
 
 -- Lane l of group g did its turn, in phase p of the group, from where the machine was with ts; its touch has not been looked at yet.
 pub record Doing (z : Sizes) (at : ℕ → Body) (d : Grid) (ts : List Turn) (ls cs ks ls' cs' : List ℕ) (g l p : ℕ) (deed : Deed) : Type 0 where
@@ -59,13 +63,6 @@ pub record Doing (z : Sizes) (at : ℕ → Body) (d : Grid) (ts : List Turn) (ls
   pub sofar : Sofar z at d ts ls cs ks
   pub placed : Placed z deed
   pub turned : Turned z at ls cs ls' cs' g l deed
-
--- Who it is.
-pub record IsWho (a : Who) (g l p i : ℕ) : Type 0 where
-  pub group : a.group ≡ g
-  pub lane : a.lane ≡ l
-  pub phase : a.phase ≡ p
-  pub line : a.line ≡ i
 
 -- The two touches in the order in which they are told.
 abbrev pub paired_of : Whereabouts → ℕ → Found → Found → Race

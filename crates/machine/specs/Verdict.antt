@@ -1,5 +1,5 @@
 -- The machine between two choices of its scheduler, and what it tells.
-use Rattle.std.specs.Prelude.{◌≡◌, ℕ, zero, suc, ◌+◌, ◌-◌, ◌*◌, ◌<◌, ◌≤◌, Bool, true, false, ◌⊎◌, List, [], ◌≢◌}
+use Rattle.std.specs.Prelude.{◌≡◌, ℕ, zero, suc, ◌+◌, ◌-◌, ◌*◌, ◌<◌, ◌≤◌, Bool, true, false, ◌⊎◌, List, [], ◌≢◌, Result, Ok, Err}
 use Rattle.lanes.specs.Syntax.{Body, end, put, read_shared, write_shared, read_all, write_all, barrier, when, while, at_barrier, ended}
 use Rattle.lanes.specs.Grid.{Grid, Turn, turns, steps}
 use Rattle.lanes.specs.Told as meaning
@@ -10,8 +10,8 @@ use Rattle.machine.specs.declared.schedule.Choice.{Choice}
 use Rattle.machine.specs.declared.schedule.Choice.TheVariants.{Row, GoOn}
 use Rattle.machine.specs.declared.verdict.Verdict.{Verdict}
 use Rattle.machine.specs.declared.verdict.Verdict.TheVariants.{Field, Raced, Wrong, Stuck, TooLong}
-use Rattle.machine.specs.declared.verdict.Went.{Went}
-use Rattle.machine.specs.declared.verdict.Went.TheVariants.{On, Told}
+use Rattle.machine.specs.declared.outcome.Stopped.{Stopped}
+use Rattle.machine.specs.declared.outcome.Stopped.TheVariants as stopped
 use Rattle.machine.specs.Sofar.{Sofar, first_mark, second_mark}
 use Rattle.machine.specs.Line.{Loaded, Runs}
 use Rattle.machine.specs.Schedule.{turns_of}
@@ -23,6 +23,11 @@ told_of (Raced r) cs = meaning.races (first_mark r) (second_mark r)
 told_of (Wrong g l i) cs = meaning.missing g l
 told_of (Stuck g) cs = meaning.stuck g
 told_of TooLong cs = meaning.too_long
+
+-- What is told of what stops a row of turns.
+abbrev pub told_at : Stopped → Verdict
+told_at (stopped.Raced r) = Raced r
+told_at (stopped.Wrong g l i) = Wrong g l i
 
 -- How many barriers stand one behind the other in front of what is left: so often can a group go on without a step between.
 unfoldable pub barriers : Body → ℕ
@@ -67,9 +72,9 @@ pub record WentTo (z : Sizes) (at : ℕ → Body) (lines : ℕ) (d : Grid) (ls c
   pub granted_still : k ≤ granted
   pub moved : Stepped z ls ls' done k ⊎ Gone z ls ls' done k
 
-abbrev pub Moved : Sizes → (ℕ → Body) → ℕ → Grid → List ℕ → List ℕ → List ℕ → List ℕ → List ℕ → ℕ → ℕ → Choice → Went → Type 0
-Moved z at lines d ls cs ls' cs' ks' granted done choice (On k) = WentTo z at lines d ls cs ls' cs' ks' granted done k choice
-Moved z at lines d ls cs ls' cs' ks' granted done choice (Told v) = (us : List Turn) × Shows granted z.lanes d us (told_of v (field_of z cs'))
+abbrev pub Moved : Sizes → (ℕ → Body) → ℕ → Grid → List ℕ → List ℕ → List ℕ → List ℕ → List ℕ → ℕ → ℕ → Choice → Result ℕ Verdict → Type 0
+Moved z at lines d ls cs ls' cs' ks' granted done choice (Ok k) = WentTo z at lines d ls cs ls' cs' ks' granted done k choice
+Moved z at lines d ls cs ls' cs' ks' granted done choice (Err v) = (us : List Turn) × Shows granted z.lanes d us (told_of v (field_of z cs'))
 
 -- A group may go on: it is there, the count of its phase does not run over, and the lanes stand at steps of a program.
 abbrev pub MayGo : Sizes → List ℕ → ℕ → List ℕ → Choice → Type 0

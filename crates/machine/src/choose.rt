@@ -8,16 +8,15 @@ ghost use Rattle.machine.specs.Line.{Loaded};
 ghost use Rattle.machine.specs.Schedule.{CanDo};
 ghost use Rattle.machine.specs.Verdict.{StandsAt, Moved, MayGo};
 
-use super::count::lanes_of;
 use super::exec::Active;
-use super::outcome::Outcome;
 use super::release::release;
 use super::row::do_row;
 use super::schedule::Choice;
-use super::verdict::{Verdict, Went};
+use super::verdict::Verdict;
+use masks::count;
 use store::Sizes;
 
-// Before a row's step: if it would be more steps than were granted, it is too long.
+// How many steps there are by then; or what is told. Before a row's step: if it would be more steps than were granted, it is too long.
 pub fn do_choice(
     text: &[u8],
     steps: &[u32],
@@ -29,7 +28,7 @@ pub fn do_choice(
     granted: u64,
     done: u64,
     choice: Choice,
-) -> Went
+) -> Result<u64, Verdict>
     requires lent { Lent z lanes.old cells.old }
     requires watch { 6 * cells_room z ≤ length marks.old }
     requires few { lines < 4294967290 }
@@ -40,14 +39,14 @@ pub fn do_choice(
     match choice {
         Choice::GoOn { group } => {
             release(steps, lines, z, lanes, group);
-            Went::On(done)
+            Ok(done)
         }
         Choice::Row { group, start, mask } => {
-            let many = lanes_of(mask);
+            let many = count(mask);
             if granted - done < many {
-                return Went::Told(Verdict::TooLong);
+                return Err(Verdict::TooLong);
             }
-            match do_row(
+            do_row(
                 text,
                 steps,
                 lines,
@@ -56,15 +55,8 @@ pub fn do_choice(
                 cells,
                 marks,
                 Active { group, start, mask },
-            ) {
-                Outcome::Fine => Went::On(done + many),
-                Outcome::Raced(race) => Went::Told(Verdict::Raced(race)),
-                Outcome::Wrong { group, lane, line } => Went::Told(Verdict::Wrong {
-                    group,
-                    lane,
-                    line,
-                }),
-            }
+            )?;
+            Ok(done + many)
         }
     }
 }

@@ -3,15 +3,16 @@ ghost use Rattle.std.specs.Prelude.{◌≡◌, ℕ, ◌+◌, ◌*◌, ◌<◌, �
 ghost use Rattle.store.specs.Layout.{cells_room};
 ghost use Rattle.store.specs.Lent.{Lent, phase_of_spec};
 ghost use Rattle.store.specs.Acts.{TodoFits};
-ghost use Rattle.machine.specs.Line.{on};
+ghost use Rattle.masks.specs.Masks.{on};
 ghost use Rattle.machine.specs.Masks.{LaneDid, RowOutcome};
 
 use super::note::note;
-use super::outcome::Outcome;
+use super::outcome::Stopped;
+use masks::is_on;
 use store::{Sizes, Todo, perform, phase_of};
 
 // Lanes of one row of a group: bit i of the mask is lane `start + i`.
-#[derive(Clone, Copy)]
+#[derive(Clone, Copy, PartialEq, Eq, Debug)]
 pub struct Active {
     pub group: usize,
     pub start: usize,
@@ -38,7 +39,7 @@ pub fn do_lane(
     work: Work,
     c: u32,
     v: u32,
-) -> Outcome
+) -> Result<(), Stopped>
     requires lent { Lent z lanes.old cells.old }
     requires watch { 6 * cells_room z ≤ length marks.old }
     requires group { g < z.groups }
@@ -51,13 +52,6 @@ pub fn do_lane(
     note(marks, g, l, phase, work.line, deed)
 }
 
-pub fn is_on(mask: u32, i: usize) -> bool
-    requires { i < 32 }
-    ensures { result ≡ on mask i }
-{
-    (mask >> i) % 2 == 1
-}
-
 // The lanes in the mask do their line, lowest first, until one goes wrong or races.
 pub fn do_masked(
     z: Sizes,
@@ -68,7 +62,7 @@ pub fn do_masked(
     work: Work,
     xs: &[u32],
     ys: &[u32],
-) -> Outcome
+) -> Result<(), Stopped>
     requires lent { Lent z lanes.old cells.old }
     requires watch { 6 * cells_room z ≤ length marks.old }
     requires group { row.group < z.groups }
@@ -82,7 +76,7 @@ pub fn do_masked(
     let phase = phase_of(z, lanes, row.group);
     for i in 0..32usize {
         if is_on(row.mask, i) {
-            match do_lane(
+            do_lane(
                 z,
                 lanes,
                 cells,
@@ -93,11 +87,8 @@ pub fn do_masked(
                 work,
                 xs[i],
                 ys[i],
-            ) {
-                Outcome::Fine => {}
-                stopped => return stopped,
-            }
+            )?;
         }
     }
-    Outcome::Fine
+    Ok(())
 }

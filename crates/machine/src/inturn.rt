@@ -1,5 +1,5 @@
 // One lane after the other, each up to its next barrier; then its group goes on; then the next group.
-ghost use Rattle.std.specs.Prelude.{◌≡◌, ℕ, suc, ◌+◌, ◌<◌, ◌≤◌, true, false, List, length};
+ghost use Rattle.std.specs.Prelude.{◌≡◌, ℕ, suc, ◌+◌, ◌<◌, ◌≤◌, true, false, List, length, MatchOption};
 ghost use Rattle.lanes.specs.Syntax.{Body};
 ghost use Rattle.lanes.specs.Grid.{of, can};
 ghost use Rattle.store.specs.Layout.{room};
@@ -12,20 +12,18 @@ use super::schedule::{Choice, Scheduler};
 use store::Sizes;
 
 // The first lane of the group, from lane `from` on, that can step.
-fn lane_from(steps: &[u32], lines: usize, z: Sizes, lanes: &[u32], g: usize, from: usize) -> usize
+fn lane_from(
+    steps: &[u32],
+    lines: usize,
+    z: Sizes,
+    lanes: &[u32],
+    g: usize,
+    from: usize,
+) -> Option<usize>
     requires fit { room z ≤ length lanes.now }
-    ensures passed { (at : ℕ → Body) (cs : List ℕ) → Runs z at steps.now lines lanes.now → (k : ℕ) → from ≤ k → k < result → can z.lanes (grid_of z at lanes.now cs) (of g k) ≡ false }
-    ensures found { result < z.lanes → (at : ℕ → Body) (cs : List ℕ) → Runs z at steps.now lines lanes.now → can z.lanes (grid_of z at lanes.now cs) (of g result) ≡ true }
+    ensures { (at : ℕ → Body) (cs : List ℕ) → Runs z at steps.now lines lanes.now → MatchOption result ((k : ℕ) → from ≤ k → k < z.lanes → can z.lanes (grid_of z at lanes.now cs) (of g k) ≡ false) (λ l. (from ≤ l) × (l < z.lanes) × (can z.lanes (grid_of z at lanes.now cs) (of g l) ≡ true) × ((k : ℕ) → from ≤ k → k < l → can z.lanes (grid_of z at lanes.now cs) (of g k) ≡ false)) }
 {
-    let many = z.lanes;
-    let mut l = from;
-    while l < many {
-        if can_step(steps, lines, z, lanes, g, l) {
-            return l;
-        }
-        l += 1;
-    }
-    l
+    (from..z.lanes).find(|l| can_step(steps, lines, z, lanes, g, *l))
 }
 
 // What can be done from lane `lane` of group `group` on.
@@ -40,35 +38,25 @@ pub fn find_from(
     requires fit { room z ≤ length lanes.now }
     ensures { (at : ℕ → Body) (cs : List ℕ) → Runs z at steps.now lines lanes.now → Passed z.lanes (grid_of z at lanes.now cs) group lane → Picked z at lanes.now cs result }
 {
-    let Sizes {
-        groups,
-        lanes: many,
-        owns: _,
-        shared: _,
-        field: _,
-    } = z;
-    let mut g = group;
     let mut from = lane;
-    while g < groups {
-        let l = lane_from(steps, lines, z, lanes, g, from);
-        if l < many {
+    for g in group..z.groups {
+        if let Some(start) = lane_from(steps, lines, z, lanes, g, from) {
             return Some(Choice::Row {
                 group: g,
-                start: l,
+                start,
                 mask: 1,
             });
         }
         if can_go_on(steps, lines, z, lanes, g) {
             return Some(Choice::GoOn { group: g });
         }
-        g += 1;
         from = 0;
     }
     None
 }
 
 // Where it has come to: nothing before this lane of this group can be done.
-#[derive(Clone, Copy)]
+#[derive(Clone, Copy, PartialEq, Eq, Debug)]
 pub struct InTurn {
     pub group: usize,
     pub lane: usize,
@@ -79,11 +67,7 @@ fn came_to(choice: Choice) -> InTurn
     ensures { result ≡ come_to choice }
 {
     match choice {
-        Choice::Row {
-            group,
-            start,
-            mask: _,
-        } => InTurn { group, lane: start },
+        Choice::Row { group, start, .. } => InTurn { group, lane: start },
         Choice::GoOn { group } => InTurn { group, lane: 0 },
     }
 }
@@ -92,9 +76,7 @@ impl Scheduler for InTurn {
     ghost knows = { λ s n d. Passed n d s.group s.lane };
 
     fn next(&mut self, steps: &[u32], lines: usize, z: Sizes, lanes: &[u32]) -> Option<Choice> {
-        let Some(choice) = find_from(steps, lines, z, lanes, self.group, self.lane) else {
-            return None;
-        };
+        let choice = find_from(steps, lines, z, lanes, self.group, self.lane)?;
         *self = came_to(choice);
         Some(choice)
     }

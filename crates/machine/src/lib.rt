@@ -2,7 +2,6 @@
 #![tactic(auto)]
 
 pub mod choose;
-pub mod count;
 pub mod exec;
 pub mod inturn;
 pub mod line;

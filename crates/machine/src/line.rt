@@ -10,8 +10,9 @@ ghost use Rattle.machine.specs.Line.{Loaded, Masked, LineDone};
 ghost use Rattle.machine.specs.Plans.{plan_of_spec, Worked, SecondWorked, RowIn, LineOutcome};
 
 use super::exec::{Active, Work, do_masked};
-use super::outcome::Outcome;
+use super::outcome::Stopped;
 use code::{Step, decode, text_line_of};
+use masks::{first_lanes, without};
 use store::{Sizes, Todo, own_base};
 use values::eval::eval_row;
 use values::row::Row;
@@ -29,33 +30,21 @@ fn plan_of(owns: usize, step: Step) -> Option<Plan>
     ensures { result ≡ plan_of_spec owns step }
 {
     match step {
-        Step::Put { own, expr, next } => {
-            if (own as usize) < owns {
-                Some(Plan {
-                    todo: Todo::Put { own, next },
-                    first: expr,
-                    second: expr,
-                })
-            } else {
-                None
-            }
-        }
+        Step::Put { own, expr, next } => ((own as usize) < owns).then_some(Plan {
+            todo: Todo::Put { own, next },
+            first: expr,
+            second: expr,
+        }),
         Step::Read {
             field,
             own,
             expr,
             next,
-        } => {
-            if (own as usize) < owns {
-                Some(Plan {
-                    todo: Todo::Read { field, own, next },
-                    first: expr,
-                    second: expr,
-                })
-            } else {
-                None
-            }
-        }
+        } => ((own as usize) < owns).then_some(Plan {
+            todo: Todo::Read { field, own, next },
+            first: expr,
+            second: expr,
+        }),
         Step::Write {
             field,
             place,
@@ -68,20 +57,14 @@ fn plan_of(owns: usize, step: Step) -> Option<Plan>
                 second: value,
             })
         }
-        Step::Branch {
-            expr,
-            yes,
-            no,
-            join: _,
-            looped: _,
-        } => {
+        Step::Branch { expr, yes, no, .. } => {
             Some(Plan {
                 todo: Todo::Branch { yes, no },
                 first: expr,
                 second: expr,
             })
         }
-        _ => None,
+        Step::Jump { .. } | Step::Barrier { .. } | Step::End => None,
     }
 }
 
@@ -115,7 +98,7 @@ fn seconds_of(text: &[u8], plan: Plan, z: Sizes, lanes: &[u32], row: Active, out
     requires long { length out.old ≡ 32 }
     ensures { SecondWorked z lanes.now row.group row.start text.now plan.todo plan.second out.new }
 {
-    if let Todo::Write { field: _, next: _ } = plan.todo {
+    if let Todo::Write { .. } = plan.todo {
         values_of(text, plan.second, z, lanes, row, out);
     }
 }
@@ -128,8 +111,8 @@ pub fn is_inside(z: Sizes, row: Active) -> bool
     if row.group >= z.groups || row.start >= z.lanes {
         return false;
     }
-    let width = z.lanes - row.start;
-    width >= 32 || row.mask >> width == 0
+    let width = (z.lanes - row.start).min(32);
+    without(row.mask, first_lanes(width)) == 0
 }
 
 // The lanes of the mask do the line at the entry at which they all stand, lowest first. The first that touches a cell that isn't there,
@@ -144,7 +127,7 @@ pub fn do_line(
     marks: &mut [u64],
     row: Active,
     entry: usize,
-) -> Outcome
+) -> Result<(), Stopped>
     requires lent { Lent z lanes.old cells.old }
     requires watch { 6 * cells_room z ≤ length marks.old }
     requires few { lines < 4294967296 }
@@ -152,10 +135,10 @@ pub fn do_line(
     ensures done { (ns : List (List ℕ)) (at : ℕ → Body) (d : Grid) (ts : List Turn) → Loaded ns text.now steps.now lines z at → Masked z at steps.now lines lanes.old cells.old row.group row.start row.mask entry → Sofar z at d ts lanes.old cells.old marks.old → LineDone z at d ts row.group row.start row.mask lanes.new cells.new marks.new result }
 {
     let Some(plan) = plan_of(z.owns, decode(steps, lines, entry)) else {
-        return Outcome::Fine;
+        return Ok(());
     };
     if !is_inside(z, row) {
-        return Outcome::Fine;
+        return Ok(());
     }
     let mut xs = [0; 32];
     let mut ys = [0; 32];

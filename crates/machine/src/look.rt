@@ -13,7 +13,7 @@ ghost use Rattle.machine.specs.Choices.{StanceIs, stance_of_spec};
 use code::{Step, decode, settle};
 use store::{Sizes, line_of};
 
-#[derive(Clone, Copy)]
+#[derive(Clone, Copy, PartialEq, Eq, Debug)]
 pub enum Stance {
     Steps,
     Waits,
@@ -24,7 +24,7 @@ fn stance_by(step: Step) -> Stance
     ensures { result ≡ stance_of_spec step }
 {
     match step {
-        Step::Barrier { next: _ } => Stance::Waits,
+        Step::Barrier { .. } => Stance::Waits,
         Step::End => Stance::Ended,
         _ => Stance::Steps,
     }
@@ -56,25 +56,17 @@ pub fn can_step(steps: &[u32], lines: usize, z: Sizes, lanes: &[u32], g: usize, 
     if g >= z.groups || l >= z.lanes {
         return false;
     }
-    match stance_of(steps, lines, z, lanes, g, l) {
-        Stance::Steps => true,
-        Stance::Waits => false,
-        Stance::Ended => false,
-    }
+    stance_of(steps, lines, z, lanes, g, l) == Stance::Steps
 }
 
 // Lane l of group g waits at a barrier.
-fn waits(steps: &[u32], lines: usize, z: Sizes, lanes: &[u32], g: usize, l: usize) -> bool
+pub fn waits(steps: &[u32], lines: usize, z: Sizes, lanes: &[u32], g: usize, l: usize) -> bool
     requires fit { room z ≤ length lanes.now }
     requires group { g < z.groups }
     requires lane { l < z.lanes }
     ensures { (at : ℕ → Body) → Runs z at steps.now lines lanes.now → result ≡ at_barrier (at (line_at z lanes.now g l)) }
 {
-    match stance_of(steps, lines, z, lanes, g, l) {
-        Stance::Waits => true,
-        Stance::Steps => false,
-        Stance::Ended => false,
-    }
+    stance_of(steps, lines, z, lanes, g, l) == Stance::Waits
 }
 
 // All lanes of group g wait: it can go on.
@@ -82,13 +74,5 @@ pub fn can_go_on(steps: &[u32], lines: usize, z: Sizes, lanes: &[u32], g: usize)
     requires fit { room z ≤ length lanes.now }
     ensures { (at : ℕ → Body) (cs : List ℕ) → Runs z at steps.now lines lanes.now → result ≡ can z.lanes (grid_of z at lanes.now cs) (release g) }
 {
-    if g >= z.groups {
-        return false;
-    }
-    for l in 0..z.lanes {
-        if !waits(steps, lines, z, lanes, g, l) {
-            return false;
-        }
-    }
-    true
+    g < z.groups && (0..z.lanes).all(|l| waits(steps, lines, z, lanes, g, l))
 }

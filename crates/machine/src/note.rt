@@ -3,9 +3,9 @@ ghost use Rattle.std.specs.Prelude.{◌≡◌, ℕ, ◌<◌, List, [], ◌∷◌
 ghost use Rattle.lanes.specs.Syntax.{Body};
 ghost use Rattle.lanes.specs.Grid.{Grid, Turn, of};
 ghost use Rattle.store.specs.declared.Sizes.{Sizes};
-ghost use Rattle.machine.specs.Sofar.{After, Names, Doing, paired_of, IsWho};
+ghost use Rattle.machine.specs.Sofar.{After, Names, Doing, paired_of};
 
-use super::outcome::{Outcome, Race};
+use super::outcome::{Race, Stopped};
 use store::{Deed, Whereabouts};
 use touches::{Found, Who, touch};
 
@@ -13,36 +13,21 @@ use touches::{Found, Who, touch};
 fn paired(place: Whereabouts, cell: u32, a: Found, b: Found) -> Race
     ensures { result ≡ paired_of place cell a b }
 {
-    if a.who.group < b.who.group || (a.who.group == b.who.group && a.who.lane < b.who.lane) {
-        Race {
-            place,
-            cell,
-            first: a,
-            second: b,
-        }
+    let (first, second) = if (a.who.group, a.who.lane) < (b.who.group, b.who.lane) {
+        (a, b)
     } else {
-        Race {
-            place,
-            cell,
-            first: b,
-            second: a,
-        }
+        (b, a)
+    };
+    Race {
+        place,
+        cell,
+        first,
+        second,
     }
 }
 
-fn who_of(group: usize, lane: usize, phase: u64, line: u32) -> Who
-    requires { (group < 1024) × (lane < 1024) }
-    ensures { IsWho result group lane phase line }
-{
-    Who {
-        group: group as u32,
-        lane: lane as u32,
-        phase,
-        line,
-    }
-}
-
-// What came of the turn of a lane that did this deed at a line of the text: a race with an earlier touch, or a wrong lane, or all is well.
+// What came of the turn of a lane that did this deed at a line of the text: all is well, or it stops, by a race with an earlier touch or as
+// the lane went wrong.
 pub fn note(
     kept: &mut [u64],
     group: usize,
@@ -50,19 +35,24 @@ pub fn note(
     phase: u64,
     line: u32,
     deed: Deed,
-) -> Outcome
+) -> Result<(), Stopped>
     requires few { (group < 1024) × (lane < 1024) }
     ensures after { (z : Sizes) (at : ℕ → Body) (d : Grid) (ts : List Turn) (ls cs ls' cs' : List ℕ) → Doing z at d ts ls cs kept.old ls' cs' group lane phase deed → After z at d (ts ++ (of group lane ∷ [])) ls' cs' kept.new result }
     ensures names { Names group lane result }
 {
     match deed {
-        Deed::Quiet => Outcome::Fine,
-        Deed::Wrong => Outcome::Wrong { group, lane, line },
+        Deed::Quiet => Ok(()),
+        Deed::Wrong => Err(Stopped::Wrong { group, lane, line }),
         Deed::Touched(seen) => {
-            let who = who_of(group, lane, phase, line);
+            let who = Who {
+                group: group as u32,
+                lane: lane as u32,
+                phase,
+                line,
+            };
             match touch(kept, seen.index, who, seen.wrote) {
-                None => Outcome::Fine,
-                Some(found) => Outcome::Raced(paired(
+                None => Ok(()),
+                Some(found) => Err(Stopped::Raced(paired(
                     seen.place,
                     seen.cell,
                     found,
@@ -70,7 +60,7 @@ pub fn note(
                         who,
                         wrote: seen.wrote,
                     },
-                )),
+                ))),
             }
         }
     }

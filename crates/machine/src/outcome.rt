@@ -1,6 +1,4 @@
-// What came of a turn.
-ghost use Rattle.std.specs.Prelude.{◌≡◌, true};
-
+// What stops a row of turns.
 use store::Whereabouts;
 use touches::Found;
 
@@ -13,9 +11,9 @@ pub struct Race {
     pub second: Found,
 }
 
+// The turn shows a race, or its lane went wrong. The line of the text at which it went wrong explains it.
 #[derive(Clone, Copy)]
-pub enum Outcome {
-    Fine,
+pub enum Stopped {
     Raced(Race),
     Wrong {
         group: usize,

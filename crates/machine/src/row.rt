@@ -5,28 +5,16 @@ ghost use Rattle.lanes.specs.Grid.{Grid, Turn};
 ghost use Rattle.store.specs.Layout.{room, cells_room};
 ghost use Rattle.store.specs.Lent.{Lent, Lined};
 ghost use Rattle.machine.specs.Sofar.{Sofar};
-ghost use Rattle.machine.specs.Line.{on, Loaded, LineDone};
+ghost use Rattle.machine.specs.Line.{Loaded, LineDone};
 ghost use Rattle.machine.specs.Schedule.{RowCan};
 ghost use Rattle.machine.specs.Plans.{RowIn, RowStood, RowSettled, RowRan};
 
-use super::exec::{Active, is_on};
+use super::exec::Active;
 use super::line::{do_line, is_inside};
-use super::outcome::Outcome;
+use super::outcome::Stopped;
 use code::settle;
+use masks::{is_on, lowest};
 use store::{Sizes, line_of, stand};
-
-// The lowest lane of a mask, if it has one.
-fn lowest_of(mask: u32) -> usize
-    ensures is { result < 32 → on mask result ≡ true }
-    ensures found { (i : ℕ) → i < 32 → on mask i ≡ true → result < 32 }
-{
-    for i in 0..32usize {
-        if is_on(mask, i) {
-            return i;
-        }
-    }
-    32
-}
 
 // The lanes of the mask stand at a line.
 fn stand_all(z: Sizes, lanes: &mut [u32], row: Active, line: u32)
@@ -73,7 +61,7 @@ pub fn do_row(
     cells: &mut [u32],
     marks: &mut [u64],
     row: Active,
-) -> Outcome
+) -> Result<(), Stopped>
     requires lent { Lent z lanes.old cells.old }
     requires watch { 6 * cells_room z ≤ length marks.old }
     requires few { lines < 4294967296 }
@@ -81,12 +69,11 @@ pub fn do_row(
     ensures done { (ns : List (List ℕ)) (at : ℕ → Body) (d : Grid) (ts : List Turn) → Loaded ns text.now steps.now lines z at → Lined z (suc lines) lanes.old → RowCan z at lanes.old cells.old row.group row.start row.mask → Sofar z at d ts lanes.old cells.old marks.old → LineDone z at d ts row.group row.start row.mask lanes.new cells.new marks.new result }
 {
     if !is_inside(z, row) {
-        return Outcome::Fine;
+        return Ok(());
     }
-    let low = lowest_of(row.mask);
-    if low >= 32 {
-        return Outcome::Fine;
-    }
+    let Some(low) = lowest(row.mask) else {
+        return Ok(());
+    };
     let line = line_of(z, lanes, row.group, row.start + low) as usize;
     let entry = settle_row(steps, lines, z, lanes, row, line);
     do_line(text, steps, lines, z, lanes, cells, marks, row, entry)

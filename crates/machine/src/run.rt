@@ -10,9 +10,9 @@ ghost use Rattle.machine.specs.Line.{Runs};
 ghost use Rattle.machine.specs.Verdict.{Over, Waiting, SetsOut, told_of};
 
 use super::choose::do_choice;
-use super::look::{Stance, stance_of};
+use super::look::waits;
 use super::schedule::Scheduler;
-use super::verdict::{Verdict, Went};
+use super::verdict::Verdict;
 use store::Sizes;
 
 // A lane of the group waits.
@@ -21,14 +21,7 @@ fn waiting(steps: &[u32], lines: usize, z: Sizes, lanes: &[u32], g: usize) -> bo
     requires group { g < z.groups }
     ensures { (at : ℕ → Body) (cs : List ℕ) → Runs z at steps.now lines lanes.now → Still z.lanes (grid_of z at lanes.now cs) → Waiting z at lanes.now g result }
 {
-    for l in 0..z.lanes {
-        match stance_of(steps, lines, z, lanes, g, l) {
-            Stance::Ended => {}
-            Stance::Waits => return true,
-            Stance::Steps => return true,
-        }
-    }
-    false
+    (0..z.lanes).any(|l| waits(steps, lines, z, lanes, g, l))
 }
 
 // What is told where nothing can be done: the field, or the first group that is stuck.
@@ -36,12 +29,10 @@ pub fn over(steps: &[u32], lines: usize, z: Sizes, lanes: &[u32]) -> Verdict
     requires fit { room z ≤ length lanes.now }
     ensures { (at : ℕ → Body) (cs : List ℕ) → Runs z at steps.now lines lanes.now → Still z.lanes (grid_of z at lanes.now cs) → Over z at lanes.now result }
 {
-    for g in 0..z.groups {
-        if waiting(steps, lines, z, lanes, g) {
-            return Verdict::Stuck { group: g };
-        }
+    match (0..z.groups).find(|g| waiting(steps, lines, z, lanes, *g)) {
+        Some(group) => Verdict::Stuck { group },
+        None => Verdict::Field,
     }
-    Verdict::Field
 }
 
 // Turn after turn, as the scheduler names them, until there is something to tell.
@@ -71,8 +62,8 @@ pub fn run_turns<S: Scheduler>(
         match do_choice(
             text, steps, lines, z, lanes, cells, marks, granted, done, choice,
         ) {
-            Went::On(k) => done = k,
-            Went::Told(verdict) => return verdict,
+            Ok(k) => done = k,
+            Err(verdict) => return verdict,
         }
     }
 }

@@ -10,7 +10,7 @@ ghost use Rattle.machine.specs.Schedule.{Says};
 use store::Sizes;
 
 // The lanes in a mask of one row, bit i for lane `start + i`, do the line at which they stand; or a group goes on.
-#[derive(Clone, Copy)]
+#[derive(Clone, Copy, PartialEq, Eq, Debug)]
 pub enum Choice {
     Row {
         group: usize,

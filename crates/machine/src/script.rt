@@ -1,14 +1,15 @@
 // Turns that are written down, one on a line.
 ghost use Rattle.std.specs.Prelude.{◌≡◌, ℕ, MatchOption};
 ghost use Rattle.machine.specs.declared.script.Written.{Written};
+ghost use Rattle.machine.specs.declared.script.Fault.TheVariants.{NoMemory};
 ghost use Rattle.machine.specs.Script.{DigitsHere, BytesHere, Plain, OfHere, ReleaseHere, TurnsAt, GoesOn, TurnHere, ScriptRead};
 
 use grammar::numbers::read_number;
 use grammar::tokens::expect;
-use std::alloc::Global;
+use std::alloc::{AllocFailed, Global};
 
 // A step of a lane, or that a group goes on.
-#[derive(Clone, Copy)]
+#[derive(Clone, Copy, PartialEq, Eq, Debug)]
 pub enum Written {
     Of { group: u32, lane: u32 },
     Release { group: u32 },
@@ -40,14 +41,11 @@ fn behind(bytes: &[u8], i: usize, wanted: &[u8]) -> Option<usize>
     requires { Plain wanted.now }
     ensures { MatchOption result ((j : ℕ) → BytesHere bytes.now wanted.now i j → ⊥) (λ j. BytesHere bytes.now wanted.now i j) }
 {
-    match expect(bytes, i, wanted) {
-        Ok(at) => Some(at),
-        Err(_) => None,
-    }
+    expect(bytes, i, wanted).ok()
 }
 
 // A turn, and the byte behind its line.
-#[derive(Clone, Copy)]
+#[derive(Clone, Copy, PartialEq, Eq, Debug)]
 pub struct Reading {
     pub turn: Written,
     pub next: usize,
@@ -94,10 +92,18 @@ pub fn read_turn(bytes: &[u8], i: usize) -> Option<Reading>
 }
 
 // Why a file of turns is not read.
-#[derive(Clone, Copy)]
+#[derive(Clone, Copy, PartialEq, Eq, Debug)]
 pub enum Fault {
     NoTurn { line: usize },
     NoMemory,
+}
+
+impl From<AllocFailed<Written>> for Fault {
+    ghost from_gives = { λ _ e. e ≡ NoMemory };
+
+    fn from(_full: AllocFailed<Written>) -> Fault {
+        Fault::NoMemory
+    }
 }
 
 // The turns of a whole file.
@@ -106,16 +112,14 @@ pub fn read_turns(heap: Global, bytes: &[u8]) -> Result<Vec<Written>, Fault>
 {
     let mut turns = Vec::new(heap);
     let mut at = 0;
-    let mut line: usize = 1;
     while at < bytes.len() {
         let Some(reading) = read_turn(bytes, at) else {
-            return Err(Fault::NoTurn { line });
+            return Err(Fault::NoTurn {
+                line: turns.len() + 1,
+            });
         };
-        let Ok(()) = turns.push(reading.turn) else {
-            return Err(Fault::NoMemory);
-        };
+        turns.push(reading.turn)?;
         at = reading.next;
-        line += 1;
     }
     Ok(turns)
 }

@@ -1,5 +1,8 @@
 // What the machine tells.
-use super::outcome::Race;
+ghost use Rattle.std.specs.Prelude.{◌≡◌};
+ghost use Rattle.machine.specs.Verdict.{told_at};
+
+use super::outcome::{Race, Stopped};
 
 // The cells of a told field lie in the lent slice. The line of the text at which a lane went wrong explains it.
 #[derive(Clone, Copy)]
@@ -17,9 +20,14 @@ pub enum Verdict {
     TooLong,
 }
 
-// What came of a choice of the scheduler: it was done, with so many steps by now; or there is something to tell.
-#[derive(Clone, Copy)]
-pub enum Went {
-    On(u64),
-    Told(Verdict),
+// What stops a row of turns is told.
+impl From<Stopped> for Verdict {
+    ghost from_gives = { λ s v. v ≡ told_at s };
+
+    fn from(stopped: Stopped) -> Verdict {
+        match stopped {
+            Stopped::Raced(race) => Verdict::Raced(race),
+            Stopped::Wrong { group, lane, line } => Verdict::Wrong { group, lane, line },
+        }
+    }
 }

@@ -1,4 +1,4 @@
-use Rattle.std.proofs.Common.{◌<◌, sym, refl, subst, arith}
+use Rattle.std.proofs.Common.{sym, refl, subst, rules}
 use Rattle.lanes.specs.Grid.{marked}
 use Rattle.store.specs.declared.Deed.{Deed}
 use Rattle.store.specs.Layout.{numbered}
@@ -19,28 +19,24 @@ returns-in-Wrong c = record { after = λ z at d ts ls cs ls' cs' k. noted-wrong 
 pub returns-in-None : goal.returns-in-None
 returns-in-None c = record {
   after = λ z at d ts ls cs ls' cs' k.
-      let g = c.args.group in let l = c.args.lane in let p = c.args.phase in
-      let s = c.in-Touched.seen in let who = c.who_of-who.result in let is = c.who_of-who.ensures in
-      let ks = c.args.kept.now in
+      let g = c.args.group in let l = c.args.lane in let p = c.args.phase in let i = c.args.line in
+      let s = c.in-Touched.seen in let ks = c.args.kept.now in
       let k' = subst (λ (x : Deed). Doing z at d ts ls cs ks ls' cs' g l p x) c.in-Touched.is k in
-      let hl : who.line < 4294967296 = let e = is.line in let f = c.ranges.line.fits in omega arith in
-      noted-kept z at d ts ls cs ks ls' cs' g l p s who k' is.group is.lane is.phase c.touch.new.kept
+      noted-kept z at d ts ls cs ks ls' cs' g l p s i k' c.touch.new.kept
       (c.in-None.ensures.exact (layout z) (numbered s.place) s.cell (marked z.lanes d ts)
-      (keepable z at d ts ls cs ks ls' cs' g l p s who k' is.group is.lane is.phase hl) k.sofar.kept (rising z at d ts ls cs ks ls' cs' g l p s who k' is.group is.lane is.phase));
+      (keepable z at d ts ls cs ks ls' cs' g l p s i k' (search rules)) k.sofar.kept (rising z at d ts ls cs ks ls' cs' g l p s i k'));
   names = tt;
 }
 
 pub returns-in-Some : goal.returns-in-Some
 returns-in-Some c = record {
   after = λ z at d ts ls cs ls' cs' k.
-      let g = c.args.group in let l = c.args.lane in let p = c.args.phase in
-      let s = c.in-Touched.seen in let who = c.who_of-who.result in let is = c.who_of-who.ensures in
-      let ks = c.args.kept.now in
+      let g = c.args.group in let l = c.args.lane in let p = c.args.phase in let i = c.args.line in
+      let s = c.in-Touched.seen in let ks = c.args.kept.now in
       let k' = subst (λ (x : Deed). Doing z at d ts ls cs ks ls' cs' g l p x) c.in-Touched.is k in
-      let hl : who.line < 4294967296 = let e = is.line in let f = c.ranges.line.fits in omega arith in
-      subst (AfterRace z at d ts ls cs ks ls' cs' g l p s who k' is.group is.lane is.phase) (sym c.paired.ensures)
-      (noted-raced z at d ts ls cs ks ls' cs' g l p s who k' is.group is.lane is.phase c.touch.new.kept c.in-Some.found
+      subst (AfterRace z at d ts ls cs ks ls' cs' g l p s i k') (sym c.paired.ensures)
+      (noted-raced z at d ts ls cs ks ls' cs' g l p s i k' c.touch.new.kept c.in-Some.found
       (c.in-Some.ensures.exact (layout z) (numbered s.place) s.cell (marked z.lanes d ts)
-      (keepable z at d ts ls cs ks ls' cs' g l p s who k' is.group is.lane is.phase hl) k.sofar.kept (rising z at d ts ls cs ks ls' cs' g l p s who k' is.group is.lane is.phase)));
+      (keepable z at d ts ls cs ks ls' cs' g l p s i k' (search rules)) k.sofar.kept (rising z at d ts ls cs ks ls' cs' g l p s i k')));
   names = tt;
 }

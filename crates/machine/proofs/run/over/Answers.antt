@@ -1,14 +1,12 @@
-use Rattle.std.proofs.Common.{◌≤◌, arith, below_more}
+use Rattle.std.proofs.Common.{◌≡◌, ℕ, ◌<◌, ◌≤◌, true, false, None, ap, rules, arith}
+use Rattle.std.proofs.lemmas.Iterator.{first_from_Range}
+use Rattle.store.specs.declared.Sizes.{Sizes}
+use Rattle.machine.specs.Verdict.{Waiting}
 use Rattle.machine.proofs.run.over.Goals as goal
 
-pub loop-g-init : goal.loop-g-init
-loop-g-init c = λ at cs k still h q. absurd (omega arith)
-
-pub loop-g-preserved : goal.loop-g-preserved
-loop-g-preserved c = λ at cs k still. below_more _ _ (c.loop-g.invariant at cs k still) (c.if-waiting.ensures at cs k still)
-
-pub returns-then-waiting : goal.returns-then-waiting
-returns-then-waiting c = λ at cs k still. (rw (← c.z.view_is) c.loop-g-test.true, c.if-waiting.ensures at cs k still)
-
-pub returns : goal.returns
-returns c = λ at cs k still g l hg hl. c.loop-g.invariant at cs k still g (let t : c.args.z.groups ≤ c.loop-g.g = rw (← c.z.view_is) c.loop-g-test.false in omega arith) l hl
+pub returns-in-None : goal.returns-in-None
+returns-in-None c = λ at cs k still g l hg hl.
+    let many : c.z.inside.groups ≡ c.args.z.groups = ap (λ (s : Sizes). s.groups) c.z.view_is in
+    let none : (h : ℕ) → 0 ≤ h → h < c.z.inside.groups → Waiting c.args.z at c.args.lanes.now h false =
+    first_from_Range _ _ _ None (λ h. Waiting c.args.z at c.args.lanes.now h true) (λ h. Waiting c.args.z at c.args.lanes.now h false) c.in-None.ensures.ran (λ x q h. search rules) (λ x q h. search rules) in
+    none g (omega arith) (omega arith) l hl

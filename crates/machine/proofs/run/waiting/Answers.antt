@@ -1,25 +1,24 @@
-use Rattle.std.proofs.Common.{◌≤◌, ◌∙◌, arith, below_more}
-use Rattle.std.proofs.lemmas.Bool.{both_ways}
+use Rattle.std.proofs.Common.{◌≡◌, ℕ, ◌<◌, Bool, List, MatchBool, true, false, sym, ◌∙◌, ap, rules}
+use Rattle.lanes.specs.Syntax.{Body, at_barrier, ended}
 use Rattle.lanes.specs.Grid.{of}
 use Rattle.lanes.specs.Promise.{Still}
+use Rattle.store.specs.declared.Sizes.{Sizes}
+use Rattle.store.specs.Lent.{line_at, grid_of}
+use Rattle.machine.specs.Verdict.{Waiting}
+use Rattle.machine.proofs.Ranges.{any-below}
 use Rattle.machine.proofs.Stances.{can-of}
 use Rattle.machine.proofs.Overs.{stance-ended}
 use Rattle.machine.proofs.run.waiting.Goals as goal
 
-pub loop-l-init : goal.loop-l-init
-loop-l-init c = λ at k i h. absurd (omega arith)
-
-pub loop-l-preserved : goal.loop-l-preserved
-loop-l-preserved c = λ at k. below_more _ _ (c.loop-l.invariant at k) (let q = c.in-Ended.ensures at k in stance-ended _ q.0 q.1)
-
-pub returns-in-Waits : goal.returns-in-Waits
-returns-in-Waits c = λ at cs k still. (c.loop-l.l, rw (← c.z.view_is) c.loop-l-test.true, (c.in-Waits.ensures at k).1)
-
-pub returns-in-Steps : goal.returns-in-Steps
-unfolding Still
-returns-in-Steps c = λ at cs k still.
-    absurd (both_ways _ (still (of c.args.g c.loop-l.l))
-    (can-of c.args.z at c.args.lanes.now cs c.args.g c.loop-l.l c.requires.group (rw (← c.z.view_is) c.loop-l-test.true) ∙ (c.in-Steps.ensures at k).0))
-
 pub returns : goal.returns
-returns c = λ at cs k still l h. c.loop-l.invariant at k l (let t : c.args.z.lanes ≤ c.loop-l.l = rw (← c.z.view_is) c.loop-l-test.false in omega arith)
+unfolding Still
+returns c = λ at cs k still.
+    let z = c.args.z in let ls = c.args.lanes.now in let g = c.args.g in
+    by at cs still c.any.result (any-below _ z.lanes (ap (λ (s : Sizes). s.lanes) c.z.view_is) _ _ c.any.result (λ l. at_barrier (at (line_at z ls g l)) ≡ true) (λ l. at_barrier (at (line_at z ls g l)) ≡ false) c.any.ensures.ran
+    (λ x q h. search rules) (λ x q h. search rules))
+  where
+    by : (at : ℕ → Body) (cs : List ℕ) → Still c.args.z.lanes (grid_of c.args.z at c.args.lanes.now cs) → (r : Bool) →
+        MatchBool r ((l : ℕ) × (l < c.args.z.lanes) × (at_barrier (at (line_at c.args.z c.args.lanes.now c.args.g l)) ≡ true))
+        ((l : ℕ) → l < c.args.z.lanes → at_barrier (at (line_at c.args.z c.args.lanes.now c.args.g l)) ≡ false) → Waiting c.args.z at c.args.lanes.now c.args.g r
+    by at cs still true h = h
+    by at cs still false h = λ l hl. stance-ended _ (sym (can-of c.args.z at c.args.lanes.now cs c.args.g l c.requires.group hl) ∙ still (of c.args.g l)) (h l hl)

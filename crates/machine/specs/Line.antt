@@ -10,6 +10,7 @@ use Rattle.store.specs.declared.Sizes.{Sizes}
 use Rattle.store.specs.Layout.{cells_room}
 use Rattle.store.specs.Lent.{Lent, Lined, line_at, grid_of}
 use Rattle.masks.specs.Masks.{on}
+use Rattle.machine.specs.declared.view.View.{View}
 use Rattle.machine.specs.Sofar.{After, Outcome}
 
 -- The words of steps stand for the text: `at` is what is left at each of the entries and behind the last; own numbers are named ns.
@@ -53,3 +54,10 @@ pub record LineDone (z : Sizes) (at : ℕ → Body) (d : Grid) (ts : List Turn) 
   pub us : List Turn
   pub after : After z at d us ls cs ks r
   pub all : r ≡ Ok tt → us ≡ ts ++ row_turns g first mask 32
+
+-- The words that are looked at do at each entry what is left there, and the grid that the lanes are part of, with these cells.
+abbrev pub RunsIn : View → (ℕ → Body) → Type 0
+RunsIn v at = Runs v.sizes at v.steps.now v.lines v.lanes.now
+
+abbrev pub grid_in : View → (ℕ → Body) → List ℕ → Grid
+grid_in v at cs = grid_of v.sizes at v.lanes.now cs

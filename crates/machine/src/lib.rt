@@ -15,3 +15,4 @@ pub mod run;
 pub mod schedule;
 pub mod script;
 pub mod verdict;
+pub mod view;

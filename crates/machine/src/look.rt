@@ -5,13 +5,13 @@ ghost use Rattle.lanes.specs.Grid.{of, release, can};
 ghost use Rattle.grammar.specs.Spelling.{Named};
 ghost use Rattle.code.specs.Words.{step_at};
 ghost use Rattle.code.specs.Code.{Coded};
-ghost use Rattle.store.specs.Layout.{room};
-ghost use Rattle.store.specs.Lent.{line_at, grid_of};
-ghost use Rattle.machine.specs.Line.{Runs};
+ghost use Rattle.store.specs.Lent.{line_at};
+ghost use Rattle.machine.specs.Line.{RunsIn, grid_in};
 ghost use Rattle.machine.specs.Choices.{StanceIs, stance_of_spec};
 
+use super::view::View;
 use code::{Step, decode, settle};
-use store::{Sizes, line_of};
+use store::line_of;
 
 #[derive(Clone, Copy, PartialEq, Eq, Debug)]
 pub enum Stance {
@@ -38,41 +38,45 @@ pub fn stance_at(steps: &[u32], lines: usize, entry: usize) -> Stance
     stance_by(decode(steps, lines, here))
 }
 
-// What lane l of group g can do.
-pub fn stance_of(steps: &[u32], lines: usize, z: Sizes, lanes: &[u32], g: usize, l: usize) -> Stance
-    requires fit { room z ≤ length lanes.now }
-    requires group { g < z.groups }
-    requires lane { l < z.lanes }
-    ensures { (at : ℕ → Body) → Runs z at steps.now lines lanes.now → StanceIs (at (line_at z lanes.now g l)) result }
-{
-    stance_at(steps, lines, line_of(z, lanes, g, l) as usize)
-}
-
-// Lane l of group g can step.
-pub fn can_step(steps: &[u32], lines: usize, z: Sizes, lanes: &[u32], g: usize, l: usize) -> bool
-    requires fit { room z ≤ length lanes.now }
-    ensures { (at : ℕ → Body) (cs : List ℕ) → Runs z at steps.now lines lanes.now → result ≡ can z.lanes (grid_of z at lanes.now cs) (of g l) }
-{
-    if g >= z.groups || l >= z.lanes {
-        return false;
+impl<'a> View<'a> {
+    // What lane l of group g can do.
+    fn stance_of(&self, g: usize, l: usize) -> Stance
+        requires group { g < self.now.sizes.groups }
+        requires lane { l < self.now.sizes.lanes }
+        ensures { (at : ℕ → Body) → RunsIn self.now at → StanceIs (at (line_at self.now.sizes self.now.lanes.now g l)) result }
+    {
+        stance_at(
+            self.steps,
+            self.lines,
+            line_of(self.sizes, self.lanes, g, l) as usize,
+        )
     }
-    stance_of(steps, lines, z, lanes, g, l) == Stance::Steps
-}
 
-// Lane l of group g waits at a barrier.
-pub fn waits(steps: &[u32], lines: usize, z: Sizes, lanes: &[u32], g: usize, l: usize) -> bool
-    requires fit { room z ≤ length lanes.now }
-    requires group { g < z.groups }
-    requires lane { l < z.lanes }
-    ensures { (at : ℕ → Body) → Runs z at steps.now lines lanes.now → result ≡ at_barrier (at (line_at z lanes.now g l)) }
-{
-    stance_of(steps, lines, z, lanes, g, l) == Stance::Waits
-}
+    // Lane l of group g can step.
+    pub fn can_step(&self, g: usize, l: usize) -> bool
+        ensures { (at : ℕ → Body) (cs : List ℕ) → RunsIn self.now at → result ≡ can self.now.sizes.lanes (grid_in self.now at cs) (of g l) }
+    {
+        let z = self.sizes;
+        if g >= z.groups || l >= z.lanes {
+            return false;
+        }
+        self.stance_of(g, l) == Stance::Steps
+    }
 
-// All lanes of group g wait: it can go on.
-pub fn can_go_on(steps: &[u32], lines: usize, z: Sizes, lanes: &[u32], g: usize) -> bool
-    requires fit { room z ≤ length lanes.now }
-    ensures { (at : ℕ → Body) (cs : List ℕ) → Runs z at steps.now lines lanes.now → result ≡ can z.lanes (grid_of z at lanes.now cs) (release g) }
-{
-    g < z.groups && (0..z.lanes).all(|l| waits(steps, lines, z, lanes, g, l))
+    // Lane l of group g waits at a barrier.
+    pub fn waits(&self, g: usize, l: usize) -> bool
+        requires group { g < self.now.sizes.groups }
+        requires lane { l < self.now.sizes.lanes }
+        ensures { (at : ℕ → Body) → RunsIn self.now at → result ≡ at_barrier (at (line_at self.now.sizes self.now.lanes.now g l)) }
+    {
+        self.stance_of(g, l) == Stance::Waits
+    }
+
+    // All lanes of group g wait: it can go on.
+    pub fn can_go_on(&self, g: usize) -> bool
+        ensures { (at : ℕ → Body) (cs : List ℕ) → RunsIn self.now at → result ≡ can self.now.sizes.lanes (grid_in self.now at cs) (release g) }
+    {
+        let z = self.sizes;
+        g < z.groups && (0..z.lanes).all(|l| self.waits(g, l))
+    }
 }

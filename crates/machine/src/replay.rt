@@ -1,28 +1,24 @@
 // The turns that are written down, and behind them one lane after the other. A written turn that can't be done does nothing.
 ghost use Rattle.std.specs.Prelude.{◌≡◌, ℕ, ◌≤◌, List, length};
 ghost use Rattle.lanes.specs.Syntax.{Body};
-ghost use Rattle.store.specs.Layout.{room};
-ghost use Rattle.store.specs.Lent.{grid_of};
-ghost use Rattle.machine.specs.Line.{Runs};
+ghost use Rattle.machine.specs.Line.{RunsIn, grid_in};
 ghost use Rattle.machine.specs.Schedule.{Passed, named};
 
 use super::inturn::InTurn;
-use super::look::{can_go_on, can_step};
 use super::schedule::{Choice, Scheduler};
 use super::script::Written;
+use super::view::View;
 use std::slice::Iter;
-use store::Sizes;
 
 // What a written turn names, if it can be done.
-fn choice_of(steps: &[u32], lines: usize, z: Sizes, lanes: &[u32], turn: Written) -> Option<Choice>
-    requires fit { room z ≤ length lanes.now }
-    ensures { (at : ℕ → Body) (cs : List ℕ) → Runs z at steps.now lines lanes.now → result ≡ named z.lanes (grid_of z at lanes.now cs) turn }
+fn choice_of(view: &View, turn: Written) -> Option<Choice>
+    ensures { (at : ℕ → Body) (cs : List ℕ) → RunsIn view.now at → result ≡ named view.now.sizes.lanes (grid_in view.now at cs) turn }
 {
     match turn {
         Written::Of { group, lane } => {
             let group = group as usize;
             let start = lane as usize;
-            can_step(steps, lines, z, lanes, group, start).then_some(Choice::Row {
+            view.can_step(group, start).then_some(Choice::Row {
                 group,
                 start,
                 mask: 1,
@@ -30,7 +26,7 @@ fn choice_of(steps: &[u32], lines: usize, z: Sizes, lanes: &[u32], turn: Written
         }
         Written::Release { group } => {
             let group = group as usize;
-            can_go_on(steps, lines, z, lanes, group).then_some(Choice::GoOn { group })
+            view.can_go_on(group).then_some(Choice::GoOn { group })
         }
     }
 }
@@ -45,12 +41,9 @@ pub struct Scripted<'a> {
 impl<'a> Scheduler for Scripted<'a> {
     ghost knows = { λ s n d. Passed n d s.rest.group s.rest.lane };
 
-    fn next(&mut self, steps: &[u32], lines: usize, z: Sizes, lanes: &[u32]) -> Option<Choice> {
-        let Some(choice) = self
-            .turns
-            .find_map(|turn| choice_of(steps, lines, z, lanes, *turn))
-        else {
-            return self.rest.next(steps, lines, z, lanes);
+    fn next(&mut self, view: &View) -> Option<Choice> {
+        let Some(choice) = self.turns.find_map(|turn| choice_of(view, *turn)) else {
+            return self.rest.next(view);
         };
         self.rest = InTurn { group: 0, lane: 0 };
         Some(choice)

@@ -4,32 +4,32 @@ ghost use Rattle.lanes.specs.Syntax.{Body};
 ghost use Rattle.lanes.specs.Grid.{Grid, Turn};
 ghost use Rattle.lanes.specs.Promise.{Still};
 ghost use Rattle.lanes.specs.Told.{Shows};
-ghost use Rattle.store.specs.Layout.{room, cells_room};
+ghost use Rattle.store.specs.Layout.{cells_room};
 ghost use Rattle.store.specs.Lent.{Lent, grid_of, field_of};
-ghost use Rattle.machine.specs.Line.{Runs};
+ghost use Rattle.machine.specs.Line.{RunsIn, grid_in};
 ghost use Rattle.machine.specs.Verdict.{Over, Waiting, SetsOut, told_of};
 
 use super::choose::do_choice;
-use super::look::waits;
 use super::schedule::Scheduler;
 use super::verdict::Verdict;
+use super::view::View;
 use store::Sizes;
 
 // A lane of the group waits.
-fn waiting(steps: &[u32], lines: usize, z: Sizes, lanes: &[u32], g: usize) -> bool
-    requires fit { room z ≤ length lanes.now }
-    requires group { g < z.groups }
-    ensures { (at : ℕ → Body) (cs : List ℕ) → Runs z at steps.now lines lanes.now → Still z.lanes (grid_of z at lanes.now cs) → Waiting z at lanes.now g result }
+fn waiting(view: &View, g: usize) -> bool
+    requires { g < view.now.sizes.groups }
+    ensures { (at : ℕ → Body) (cs : List ℕ) → RunsIn view.now at → Still view.now.sizes.lanes (grid_in view.now at cs) → Waiting view.now.sizes at view.now.lanes.now g result }
 {
-    (0..z.lanes).any(|l| waits(steps, lines, z, lanes, g, l))
+    let z = view.sizes;
+    (0..z.lanes).any(|l| view.waits(g, l))
 }
 
 // What is told where nothing can be done: the field, or the first group that is stuck.
-pub fn over(steps: &[u32], lines: usize, z: Sizes, lanes: &[u32]) -> Verdict
-    requires fit { room z ≤ length lanes.now }
-    ensures { (at : ℕ → Body) (cs : List ℕ) → Runs z at steps.now lines lanes.now → Still z.lanes (grid_of z at lanes.now cs) → Over z at lanes.now result }
+pub fn over(view: &View) -> Verdict
+    ensures { (at : ℕ → Body) (cs : List ℕ) → RunsIn view.now at → Still view.now.sizes.lanes (grid_in view.now at cs) → Over view.now.sizes at view.now.lanes.now result }
 {
-    match (0..z.groups).find(|g| waiting(steps, lines, z, lanes, *g)) {
+    let z = view.sizes;
+    match (0..z.groups).find(|g| waiting(view, *g)) {
         Some(group) => Verdict::Stuck { group },
         None => Verdict::Field,
     }
@@ -56,8 +56,14 @@ pub fn run_turns<S: Scheduler>(
 {
     let mut done = 0;
     loop {
-        let Some(choice) = s.next(steps, lines, z, lanes) else {
-            return over(steps, lines, z, lanes);
+        let view = View {
+            steps,
+            lines,
+            sizes: z,
+            lanes: &*lanes,
+        };
+        let Some(choice) = s.next(&view) else {
+            return over(&view);
         };
         match do_choice(
             text, steps, lines, z, lanes, cells, marks, granted, done, choice,

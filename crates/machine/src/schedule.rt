@@ -1,13 +1,11 @@
 // Schedulers.
-ghost use Rattle.std.specs.Prelude.{◌≡◌, ℕ, ◌≤◌, List, length};
+ghost use Rattle.std.specs.Prelude.{ℕ, List};
 ghost use Rattle.lanes.specs.Syntax.{Body};
 ghost use Rattle.lanes.specs.Grid.{Grid};
-ghost use Rattle.store.specs.Layout.{room};
-ghost use Rattle.store.specs.Lent.{grid_of};
-ghost use Rattle.machine.specs.Line.{Runs};
+ghost use Rattle.machine.specs.Line.{RunsIn, grid_in};
 ghost use Rattle.machine.specs.Schedule.{Says};
 
-use store::Sizes;
+use super::view::View;
 
 // The lanes in a mask of one row, bit i for lane `start + i`, do the line at which they stand; or a group goes on.
 #[derive(Clone, Copy, PartialEq, Eq, Debug)]
@@ -27,7 +25,6 @@ pub enum Choice {
 pub trait Scheduler {
     ghost knows: { Self → ℕ → Grid → Type 0 };
 
-    fn next(&mut self, steps: &[u32], lines: usize, z: Sizes, lanes: &[u32]) -> Option<Choice>
-        requires fit { room z ≤ length lanes.now }
-        ensures { (at : ℕ → Body) (cs : List ℕ) → Runs z at steps.now lines lanes.now → knows self.old z.lanes (grid_of z at lanes.now cs) → Says knows self.new z at lanes.now cs result };
+    fn next(&mut self, view: &View) -> Option<Choice>
+        ensures { (at : ℕ → Body) (cs : List ℕ) → RunsIn view.now at → knows self.old view.now.sizes.lanes (grid_in view.now at cs) → Says knows self.new view.now.sizes at view.now.lanes.now cs result };
 }

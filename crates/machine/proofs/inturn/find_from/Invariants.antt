@@ -6,5 +6,5 @@ use Rattle.machine.specs.Schedule.{Passed}
 use Rattle.machine.proofs.inturn.find_from.Given as goal
 
 abbrev pub invariant-loop-g : goal.invariant-loop-g
-invariant-loop-g v = (at : ℕ → Body) (cs : List ℕ) → Runs v.z at v.steps v.lines v.lanes → Passed v.z.lanes (grid_of v.z at v.lanes cs) v.group v.lane →
-    Passed v.z.lanes (grid_of v.z at v.lanes cs) v.g v.from
+invariant-loop-g v = (at : ℕ → Body) (cs : List ℕ) → Runs v.view.sizes at v.view.steps.now v.view.lines v.view.lanes.now → Passed v.view.sizes.lanes (grid_of v.view.sizes at v.view.lanes.now cs) v.group v.lane →
+    Passed v.view.sizes.lanes (grid_of v.view.sizes at v.view.lanes.now cs) v.g v.from

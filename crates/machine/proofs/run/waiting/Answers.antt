@@ -13,12 +13,12 @@ use Rattle.machine.proofs.run.waiting.Goals as goal
 pub returns : goal.returns
 unfolding Still
 returns c = λ at cs k still.
-    let z = c.args.z in let ls = c.args.lanes.now in let g = c.args.g in
+    let z = c.args.view.now.sizes in let ls = c.args.view.now.lanes.now in let g = c.args.g in
     by at cs still c.any.result (any-below _ z.lanes (ap (λ (s : Sizes). s.lanes) c.z.view_is) _ _ c.any.result (λ l. at_barrier (at (line_at z ls g l)) ≡ true) (λ l. at_barrier (at (line_at z ls g l)) ≡ false) c.any.ensures.ran
     (λ x q h. search rules) (λ x q h. search rules))
   where
-    by : (at : ℕ → Body) (cs : List ℕ) → Still c.args.z.lanes (grid_of c.args.z at c.args.lanes.now cs) → (r : Bool) →
-        MatchBool r ((l : ℕ) × (l < c.args.z.lanes) × (at_barrier (at (line_at c.args.z c.args.lanes.now c.args.g l)) ≡ true))
-        ((l : ℕ) → l < c.args.z.lanes → at_barrier (at (line_at c.args.z c.args.lanes.now c.args.g l)) ≡ false) → Waiting c.args.z at c.args.lanes.now c.args.g r
+    by : (at : ℕ → Body) (cs : List ℕ) → Still c.args.view.now.sizes.lanes (grid_of c.args.view.now.sizes at c.args.view.now.lanes.now cs) → (r : Bool) →
+        MatchBool r ((l : ℕ) × (l < c.args.view.now.sizes.lanes) × (at_barrier (at (line_at c.args.view.now.sizes c.args.view.now.lanes.now c.args.g l)) ≡ true))
+        ((l : ℕ) → l < c.args.view.now.sizes.lanes → at_barrier (at (line_at c.args.view.now.sizes c.args.view.now.lanes.now c.args.g l)) ≡ false) → Waiting c.args.view.now.sizes at c.args.view.now.lanes.now c.args.g r
     by at cs still true h = h
-    by at cs still false h = λ l hl. stance-ended _ (sym (can-of c.args.z at c.args.lanes.now cs c.args.g l c.requires.group hl) ∙ still (of c.args.g l)) (h l hl)
+    by at cs still false h = λ l hl. stance-ended _ (sym (can-of c.args.view.now.sizes at c.args.view.now.lanes.now cs c.args.g l c.requires hl) ∙ still (of c.args.g l)) (h l hl)

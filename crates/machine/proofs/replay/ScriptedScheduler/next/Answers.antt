@@ -13,7 +13,7 @@ gave None h k = absurd h
 
 pub returns : goal.returns
 returns c = λ at cs k p.
-    let z = c.args.z in let ls = c.args.lanes.now in let run = c.in-Some.ensures.runs in (
+    let z = c.args.view.now.sizes in let ls = c.args.view.now.lanes.now in let run = c.in-Some.ensures.runs in (
       gave _ (run.2.3 (λ a r f' h. search rules)).0 (λ x h.
           let e : Some c.in-Some.choice ≡ named z.lanes (grid_of z at ls cs) x.now = search rules in
           named-can z at ls cs x.now c.in-Some.choice e),

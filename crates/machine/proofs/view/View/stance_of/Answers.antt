@@ -1,7 +1,7 @@
 use Rattle.std.proofs.Common.{ℕ, subst, arith}
 use Rattle.store.specs.Lent.{Lined}
 use Rattle.machine.specs.Choices.{StanceIs}
-use Rattle.machine.proofs.look.stance_of.Goals as goal
+use Rattle.machine.proofs.view.View.stance_of.Goals as goal
 
 pub returns : goal.returns
 unfolding Lined

@@ -8,7 +8,7 @@ use Rattle.grammar.specs.Spelling.{word_byte, each_byte, SpellsExpr, SpellsBody,
 use Rattle.grammar.specs.Names.{PlaceOf}
 use Rattle.grammar.specs.Taken.{depth}
 use Rattle.code.specs.declared.scan.Line.{Line}
-use Rattle.code.specs.declared.scan.Line.TheVariants.{Heading, Put, Read, Write, Wait, Test, Loop, Otherwise, Close, Nothing}
+use Rattle.code.specs.declared.scan.Line.TheVariants.{Heading, Put, Read, Write, Wait, Test, Loop, Otherwise, Close}
 use Rattle.code.specs.Lines.{lines_of}
 use Rattle.code.specs.Code.{Codes}
 use Rattle.code.specs.Scan.{in_line, Scan, ScanBy, NamedScan, NamedBy}
@@ -22,45 +22,47 @@ abbrev pub branch_line : Bool → ℕ → Line
 branch_line false x = Test x
 branch_line true x = Loop x
 
-abbrev pub heading : Line → Bool
-heading Heading = true
-heading (Put k x) = false
-heading (Read f k x) = false
-heading (Write f x y) = false
-heading Wait = false
-heading (Test x) = false
-heading (Loop x) = false
-heading Otherwise = false
-heading Close = false
-heading Nothing = false
+abbrev pub heading : Option Line → Bool
+heading None = false
+heading (Some Heading) = true
+heading (Some (Put k x)) = false
+heading (Some (Read f k x)) = false
+heading (Some (Write f x y)) = false
+heading (Some Wait) = false
+heading (Some (Test x)) = false
+heading (Some (Loop x)) = false
+heading (Some Otherwise) = false
+heading (Some Close) = false
 
-abbrev pub branching : Line → Bool
-branching Heading = false
-branching (Put k x) = false
-branching (Read f k x) = false
-branching (Write f x y) = false
-branching Wait = false
-branching (Test x) = true
-branching (Loop x) = true
-branching Otherwise = false
-branching Close = false
-branching Nothing = false
+abbrev pub branching : Option Line → Bool
+branching None = false
+branching (Some Heading) = false
+branching (Some (Put k x)) = false
+branching (Some (Read f k x)) = false
+branching (Some (Write f x y)) = false
+branching (Some Wait) = false
+branching (Some (Test x)) = true
+branching (Some (Loop x)) = true
+branching (Some Otherwise) = false
+branching (Some Close) = false
 
-module _ (ns : List (List ℕ)) (text : List ℕ) (names : Names ns text) (at : ℕ) (r : Line) (scan : Scan text at r) (z : List ℕ) where
+module _ (ns : List (List ℕ)) (text : List ℕ) (names : Names ns text) (at : ℕ) (r : Option Line) (scan : Scan text at r) (z : List ℕ) where
   -- A line without lines in it.
   pub record Plain (b : Body) : Type 0 where
     pub rest : Body
+    pub line : Line
+    pub is : r ≡ Some line
     pub goes : stopping r ≡ false
     pub flat : branching r ≡ false
     pub lines : lines_of b ≡ suc (lines_of rest)
     pub deep : depth rest ≤ depth b
     pub next : (n : ℕ) → NextLine text at n → Lies ns text n rest z
-    pub codes_on : (after : List ℕ) (o : ℕ) → entry_at after o ≡ plain_step r (suc o) → Codes (Named ns) text (length ns) (entry_at after) (suc o) rest → Codes (Named ns) text (length ns) (entry_at after) o b
+    pub codes_on : (after : List ℕ) (o : ℕ) → entry_at after o ≡ plain_step line (suc o) → Codes (Named ns) text (length ns) (entry_at after) (suc o) rest → Codes (Named ns) text (length ns) (entry_at after) o b
 
   pub data Told (b : Body) : Type 0 where
     halted : b ≡ end → stopping r ≡ true → heading r ≡ false → Told b
     plain : Plain b → Told b
-    branch : (looped : Bool) (x : ℕ) → Branches ns text x looped b → r ≡ branch_line looped x → Told b
+    branch : (looped : Bool) (x : ℕ) → Branches ns text x looped b → r ≡ Some (branch_line looped x) → Told b
 
   -- The text from a line on, put in order: what is in the line, and what is behind it.
   next_lies : (b : Body) (u s : List ℕ) → drop at text ≡ u ++ (10 ∷ (s ++ z)) → each_byte in_line u ≡ true → SpellsBody (Named ns) b s → (n : ℕ) → NextLine text at n → Lies ns text n b z
@@ -86,12 +88,12 @@ module _ (ns : List (List ℕ)) (text : List ℕ) (names : Names ns text) (at : 
       (each_append in_line m (u ++ (codes " = " ++ v)) hm
       (each_append in_line u (codes " = " ++ v) (in-one-line ns text names e u su) (each_append in_line (codes " = ") v refl (in-one-line ns text names f v sv)))) sb
 
-  nothing_named : (f : Line → Bool) (v : Bool) (e : ℕ) (o : Option ℕ) → f Nothing ≡ v → PlaceOf ns [] o → NamedBy text e o r → f r ≡ v
+  nothing_named : (f : Option Line → Bool) (v : Bool) (e : ℕ) (o : Option ℕ) → f None ≡ v → PlaceOf ns [] o → NamedBy text e o r → f r ≡ v
   nothing_named f v e None h p q = ap f q ∙ h
   nothing_named f v e (Some k) h p q = absurd (omega (arith, (names.there.names k p.there).some, ap length p.is))
 
   -- What is behind a body is nothing, an else or an end.
-  halting : (f : Line → Bool) (v : Bool) → f Nothing ≡ v → f Otherwise ≡ v → f Close ≡ v → drop at text ≡ z → Halts z → f r ≡ v
+  halting : (f : Option Line → Bool) (v : Bool) → f None ≡ v → f (Some Otherwise) ≡ v → f (Some Close) ≡ v → drop at text ≡ z → Halts z → f r ≡ v
   halting f v a b c h (no_more q) =
       let w : between at scan.stop text ≡ [] = word_at text [] z at scan.stop scan.ends h each_none (ap (λ s. word_byte (get_or s 0 0)) q) in
       let k : scan.word ≡ None = empty-word scan.word _ w scan.is_word in
@@ -124,12 +126,14 @@ module _ (ns : List (List ℕ)) (text : List ℕ) (names : Names ns text) (at : 
       let v = put-line ns text names at r scan k e s.0 s.1 (s.2 ++ z) s.3 s.4 t in
       plain (record {
         rest = b;
+        line = Put k v.0;
+        is = v.2;
         goes = ap stopping v.2;
         flat = ap branching v.2;
         lines = refl;
         deep = omega arith;
         next = named-line b k e s.0 (codes " = ") s.1 s.2 s.3 refl s.4 s.5 t;
-        codes_on = λ after o q c. (s.3.0, (v.0, v.1, q ∙ ap (λ w. plain_step w (suc o)) v.2), c);
+        codes_on = λ after o q c. (s.3.0, (v.0, v.1, q), c);
       })
   told (read_shared k e b) l h =
       let s = l.spells in
@@ -137,12 +141,14 @@ module _ (ns : List (List ℕ)) (text : List ℕ) (names : Names ns text) (at : 
       let v = read-line ns text names at r scan k e s.0 s.1 (s.2 ++ z) s.3 s.4 t in
       plain (record {
         rest = b;
+        line = Read false k v.0;
+        is = v.2;
         goes = ap stopping v.2;
         flat = ap branching v.2;
         lines = refl;
         deep = omega arith;
         next = named-line b k e s.0 (codes " = cell ") s.1 s.2 s.3 refl s.4 s.5 t;
-        codes_on = λ after o q c. (s.3.0, (v.0, v.1, q ∙ ap (λ w. plain_step w (suc o)) v.2), c);
+        codes_on = λ after o q c. (s.3.0, (v.0, v.1, q), c);
       })
   told (write_shared e f b) l h =
       let s = l.spells in
@@ -150,12 +156,14 @@ module _ (ns : List (List ℕ)) (text : List ℕ) (names : Names ns text) (at : 
       let v = write-line ns text names at r scan e f s.0 s.1 (s.2 ++ z) s.3 s.4 t in
       plain (record {
         rest = b;
+        line = Write false v.0 v.1;
+        is = v.4;
         goes = ap stopping v.4;
         flat = ap branching v.4;
         lines = refl;
         deep = omega arith;
         next = two_line b e f (codes "cell ") s.0 s.1 s.2 refl s.3 s.4 s.5 t;
-        codes_on = λ after o q c. ((v.0, v.1, v.2, v.3, q ∙ ap (λ w. plain_step w (suc o)) v.4), c);
+        codes_on = λ after o q c. ((v.0, v.1, v.2, v.3, q), c);
       })
   told (read_all k e b) l h =
       let s = l.spells in
@@ -163,12 +171,14 @@ module _ (ns : List (List ℕ)) (text : List ℕ) (names : Names ns text) (at : 
       let v = read-line-field ns text names at r scan k e s.0 s.1 (s.2 ++ z) s.3 s.4 t in
       plain (record {
         rest = b;
+        line = Read true k v.0;
+        is = v.2;
         goes = ap stopping v.2;
         flat = ap branching v.2;
         lines = refl;
         deep = omega arith;
         next = named-line b k e s.0 (codes " = field ") s.1 s.2 s.3 refl s.4 s.5 t;
-        codes_on = λ after o q c. (s.3.0, (v.0, v.1, q ∙ ap (λ w. plain_step w (suc o)) v.2), c);
+        codes_on = λ after o q c. (s.3.0, (v.0, v.1, q), c);
       })
   told (write_all e f b) l h =
       let s = l.spells in
@@ -176,12 +186,14 @@ module _ (ns : List (List ℕ)) (text : List ℕ) (names : Names ns text) (at : 
       let v = write-line-field ns text names at r scan e f s.0 s.1 (s.2 ++ z) s.3 s.4 t in
       plain (record {
         rest = b;
+        line = Write true v.0 v.1;
+        is = v.4;
         goes = ap stopping v.4;
         flat = ap branching v.4;
         lines = refl;
         deep = omega arith;
         next = two_line b e f (codes "field ") s.0 s.1 s.2 refl s.3 s.4 s.5 t;
-        codes_on = λ after o q c. ((v.0, v.1, v.2, v.3, q ∙ ap (λ w. plain_step w (suc o)) v.4), c);
+        codes_on = λ after o q c. ((v.0, v.1, v.2, v.3, q), c);
       })
   told (barrier b) l h =
       let s = l.spells in
@@ -189,12 +201,14 @@ module _ (ns : List (List ℕ)) (text : List ℕ) (names : Names ns text) (at : 
       let v = keyword-scan text (10 ∷ (s.0 ++ z)) at r Barrier scan t refl in
       plain (record {
         rest = b;
+        line = Wait;
+        is = v.2;
         goes = ap stopping v.2;
         flat = ap branching v.2;
         lines = refl;
         deep = omega arith;
         next = next_lies b (codes "barrier") s.0 t refl s.1;
-        codes_on = λ after o q c. (q ∙ ap (λ w. plain_step w (suc o)) v.2, c);
+        codes_on = λ after o q c. (q, c);
       })
   told (when e c d b) l h =
       let s = l.spells in

@@ -1,5 +1,5 @@
 -- The first word of a line.
-use Rattle.std.proofs.Common.{◌≡◌, ℕ, ◌+◌, ◌≤◌, true, false, cond, ◌≢◌, ◌⊎◌, List, [], ◌∷◌, ◌++◌, length, get_or, drop, Some, None, codes, Option, sym, refl, ap, ◌∙◌, subst, inl, inr, arith}
+use Rattle.std.proofs.Common.{◌≡◌, ℕ, ◌+◌, ◌≤◌, true, false, cond, ◌≢◌, ◌⊎◌, List, [], ◌∷◌, ◌++◌, length, get_or, drop, Some, None, codes, Option, IsSomeAnd, sym, refl, ap, ◌∙◌, subst, inl, inr, arith}
 use Rattle.std.specs.List.{between}
 use Rattle.std.proofs.lemmas.List.{length-drop}
 use Rattle.std.proofs.lemmas.Bool.{true≢false}
@@ -104,7 +104,7 @@ pub empty-word : (w : Option Keyword) (u : List ℕ) → u ≡ [] → WordIs w u
 empty-word w u e h = no-keyword w u (λ k q. omega (arith, written-some k, ap length (sym q ∙ e))) h
 
 -- The keyword that a line begins with.
-pub keyword-scan : (text t : List ℕ) (at : ℕ) (r : Line) (k : Keyword) → Scan text at r → drop at text ≡ written k ++ t → Apart t → (e : ℕ) × (e ≡ at + length (written k)) × ScanBy text at e (Some k) r
+pub keyword-scan : (text t : List ℕ) (at : ℕ) (r : Option Line) (k : Keyword) → Scan text at r → drop at text ≡ written k ++ t → Apart t → (e : ℕ) × (e ≡ at + length (written k)) × ScanBy text at e (Some k) r
 keyword-scan text t at r k s h a =
     let u : between at s.stop text ≡ written k = word_at text (written k) t at s.stop s.ends h (written-word k) a in
     let q : s.word ≡ Some k = keyword-is s.word _ k s.is_word u in
@@ -115,8 +115,19 @@ own_is : (ns : List (List ℕ)) (k : ℕ) (a : List ℕ) (o : Option ℕ) → Di
 own_is ns k a None d n p = absurd (p k n.0 (sym n.1))
 own_is ns k a (Some j) d n p = ap Some (d j k p.there n.0 (p.is ∙ n.1))
 
-pub named-scan : (ns : List (List ℕ)) (text a t : List ℕ) (at k : ℕ) (r : Line) → Names ns text → Named ns k a → Scan text at r → drop at text ≡ a ++ (32 ∷ 61 ∷ 32 ∷ t)
-    → (x : ℕ) × ValueScan text k x r × (drop x text ≡ t)
+some-and : {A : Type 0} (r : Option A) (P : A → Type 0) → IsSomeAnd r P → (x : A) × (r ≡ Some x) × P x
+some-and None P h = absurd h
+some-and (Some x) P h = (x, refl, h)
+
+-- A line that is another, and no line.
+pub some-other : (r : Option Line) (l k : Line) → r ≡ Some l → (l ≡ k → ⊥) → r ≡ Some k → ⊥
+some-other r l k e n q = let s : Some l ≡ Some k = sym e ∙ q in let h : l ≡ k = cc in n h
+
+pub none-other : (r : Option Line) (k : Line) → r ≡ None → r ≡ Some k → ⊥
+none-other r k e q = let s : None ≡ Some k = sym e ∙ q in cc
+
+pub named-scan : (ns : List (List ℕ)) (text a t : List ℕ) (at k : ℕ) (r : Option Line) → Names ns text → Named ns k a → Scan text at r → drop at text ≡ a ++ (32 ∷ 61 ∷ 32 ∷ t)
+    → (x : ℕ) × (l : Line) × (r ≡ Some l) × ValueScan text k x l × (drop x text ≡ t)
 named-scan ns text a t at k r names n s h =
     let name = named-names ns names.there.names k a n in
     let u : between at s.stop text ≡ a = word_at text a _ at s.stop s.ends h name.bytes refl in
@@ -129,7 +140,8 @@ named-scan ns text a t at k r names n s h =
     let on : drop s.stop text ≡ 32 ∷ 61 ∷ 32 ∷ t = drop-on text a (32 ∷ 61 ∷ 32 ∷ t) at s.stop h e in
     let long : s.stop + 3 ≤ length text = omega (arith, ap length on, length-drop s.stop text) in
     let v : NamedBy text s.stop (Some k) r = subst (λ (w : Option ℕ). NamedBy text s.stop w r) o by.by in
-    (s.stop + 3, v long, drop-on text (32 ∷ 61 ∷ 32 ∷ []) t s.stop (s.stop + 3) on refl)
+    let l = some-and r (ValueScan text k (s.stop + 3)) (v long) in
+    (s.stop + 3, l.0, l.1, l.2, drop-on text (32 ∷ 61 ∷ 32 ∷ []) t s.stop (s.stop + 3) on refl)
 
 -- Behind the equals sign: a cell is read.
 pub value-keyword : (text t : List ℕ) (k x : ℕ) (r : Line) (j : Keyword) → ValueScan text k x r → drop x text ≡ written j ++ (32 ∷ t)

@@ -7,56 +7,32 @@ use Rattle.grammar.specs.Spelling.{each_byte, SpellsBody, Named}
 use Rattle.grammar.specs.Taken.{depth}
 use Rattle.code.specs.declared.step.Step.{Step}
 use Rattle.code.specs.declared.scan.Line.{Line}
-use Rattle.code.specs.declared.scan.Line.TheVariants.{Heading, Put, Read, Write, Wait, Test, Loop, Otherwise, Close, Nothing}
+use Rattle.code.specs.declared.scan.Line.TheVariants.{Heading, Put, Read, Write, Wait, Test, Loop, Otherwise, Close}
 use Rattle.code.specs.declared.compile.Place.{Place}
 use Rattle.code.specs.Lines.{lines_of, else_lines_spec}
 use Rattle.code.specs.Words.{Wrote}
 use Rattle.code.specs.Code.{Codes}
 use Rattle.code.specs.Scan.{Scan}
-use Rattle.code.specs.Make.{entry_at, Kept, SameEntries, at_end, After, Given, Done, Part, Branches, none, some, ElseGiven, stopping, plain_step}
+use Rattle.code.specs.Make.{entry_at, Kept, SameEntries, at_end, After, Given, Done, Part, Branches, none, some, ElseGiven, ElseMade, stopping, plain_step}
 use Rattle.code.proofs.Left.{else-none, else-some, else-room, ended_is, lines_none, no_lines}
 use Rattle.code.proofs.Tells.{next_is}
 use Rattle.code.proofs.Heads.{keyword-scan}
 use Rattle.code.proofs.Bodies.{told, halted, plain, branch, branching, branch_line}
-use Rattle.code.proofs.Inside.{kept_entry}
+use Rattle.code.proofs.Inside.{kept_entry, kept-none}
 
 pub option-weaker : {A : Type 0} (o : Option A) (P R : Type 0) (Q S : A → Type 0) → (P → R) → ((x : A) → Q x → S x) → MatchOption o P Q → MatchOption o R S
 option-weaker None P R Q S f g c = f c
 option-weaker (Some x) P R Q S f g c = g x c
 
-pub not-stopping : (looped : Bool) (x : ℕ) (r : Line) → r ≡ branch_line looped x → stopping r ≡ true → ⊥
+pub not-stopping : (looped : Bool) (x : ℕ) (r : Option Line) → r ≡ Some (branch_line looped x) → stopping r ≡ true → ⊥
 not-stopping false x r q h = true≢false (sym h ∙ ap stopping q)
 not-stopping true x r q h = true≢false (sym h ∙ ap stopping q)
 
-branch-branching : (looped : Bool) (x : ℕ) (r : Line) → r ≡ branch_line looped x → branching r ≡ true
+branch-branching : (looped : Bool) (x : ℕ) (r : Option Line) → r ≡ Some (branch_line looped x) → branching r ≡ true
 branch-branching false x r q = ap branching q
 branch-branching true x r q = ap branching q
 
-test_of : Line → ℕ
-test_of (Test x) = x
-test_of (Loop x) = x
-test_of Heading = 0
-test_of (Put k x) = 0
-test_of (Read f k x) = 0
-test_of (Write f x y) = 0
-test_of Wait = 0
-test_of Otherwise = 0
-test_of Close = 0
-test_of Nothing = 0
-
-loop-of : Line → Bool
-loop-of (Test x) = false
-loop-of (Loop x) = true
-loop-of Heading = false
-loop-of (Put k x) = false
-loop-of (Read f k x) = false
-loop-of (Write f x y) = false
-loop-of Wait = false
-loop-of Otherwise = false
-loop-of Close = false
-loop-of Nothing = false
-
-pub flat-rest : (r : Line) → ((x : ℕ) → r ≡ Test x → ⊥) → ((x : ℕ) → r ≡ Loop x → ⊥) → branching r ≡ false
+pub flat-rest : (r : Line) → ((x : ℕ) → r ≡ Test x → ⊥) → ((x : ℕ) → r ≡ Loop x → ⊥) → branching (Some r) ≡ false
 flat-rest Heading p q = refl
 flat-rest (Put k x) p q = refl
 flat-rest (Read f k x) p q = refl
@@ -66,14 +42,12 @@ flat-rest (Test x) p q = absurd (p x refl)
 flat-rest (Loop x) p q = absurd (q x refl)
 flat-rest Otherwise p q = refl
 flat-rest Close p q = refl
-flat-rest Nothing p q = refl
 
 same_branch : (f g : Bool) (x y : ℕ) → branch_line f x ≡ branch_line g y → (f ≡ g) × (x ≡ y)
-unfolding test_of loop-of
-same_branch false false x y q = (refl, ap test_of q)
-same_branch false true x y q = (ap loop-of q, ap test_of q)
-same_branch true false x y q = (ap loop-of q, ap test_of q)
-same_branch true true x y q = (refl, ap test_of q)
+same_branch false false x y q = (refl, cc)
+same_branch false true x y q = (cc, cc)
+same_branch true false x y q = (cc, cc)
+same_branch true true x y q = (refl, cc)
 
 pub branch-deep : (ns : List (List ℕ)) (text : List ℕ) (x : ℕ) (looped : Bool) (b : Body) → Branches ns text x looped b → 1 ≤ depth b
 unfolding depth
@@ -127,7 +101,7 @@ module _ (ns : List (List ℕ)) (text z : List ℕ) (fuel room : ℕ) where
         stands = part.stands w (λ i lo hi. refl) (subst (λ (v : Body). Codes (Named ns) text (length ns) (entry_at w) p.entry v) (sym q) (end-codes w p.entry));
       }
 
-  pub stops-done : (w : List ℕ) (b : Body) (q p : Place) (r : Line) → Scan text p.at r → stopping r ≡ true → Given ns text q.at b z q.entry fuel room → Part ns text w z q.entry b fuel p → Done ns text w z q.entry b p
+  pub stops-done : (w : List ℕ) (b : Body) (q p : Place) (r : Option Line) → Scan text p.at r → stopping r ≡ true → Given ns text q.at b z q.entry fuel room → Part ns text w z q.entry b fuel p → Done ns text w z q.entry b p
   stops-done w b q p r scan h g part =
       elim (told ns text g.names p.at r scan z part.rest part.lies g.halts) [
         | halted e s y ↦ part-done w q.entry b p part e
@@ -136,7 +110,7 @@ module _ (ns : List (List ℕ)) (text z : List ℕ) (fuel room : ℕ) where
       ]
 
   -- A line that goes on is in a body with entries, so there is room for one.
-  pub goes-room : (w : List ℕ) (b : Body) (q p : Place) (r : Line) → Scan text p.at r → stopping r ≡ false → Given ns text q.at b z q.entry fuel room → Part ns text w z q.entry b fuel p → p.entry < room
+  pub goes-room : (w : List ℕ) (b : Body) (q p : Place) (r : Option Line) → Scan text p.at r → stopping r ≡ false → Given ns text q.at b z q.entry fuel room → Part ns text w z q.entry b fuel p → p.entry < room
   goes-room w b q p r scan h g part =
       let n : 1 ≤ lines_of part.rest =
       elim (told ns text g.names p.at r scan z part.rest part.lies g.halts) [
@@ -147,14 +121,16 @@ module _ (ns : List (List ℕ)) (text z : List ℕ) (fuel room : ℕ) where
       omega (arith, part.count, g.room_for)
 
   -- A line without lines in it.
-  pub plain-part : (w v : List ℕ) (b : Body) (p q : Place) (r : Line) (s : Step) (line : ℕ) → Scan text p.at r → stopping r ≡ false → branching r ≡ false → After text p q → s ≡ plain_step r q.entry → Wrote w v p.entry s line
+  pub plain-part : (w v : List ℕ) (b : Body) (p q : Place) (r : Line) (s : Step) (line : ℕ) → Scan text p.at (Some r) → stopping (Some r) ≡ false → branching (Some r) ≡ false → After text p q → s ≡ plain_step r q.entry → Wrote w v p.entry s line
       → Given ns text p.at b z p.entry fuel room → Part ns text v z p.entry b fuel q
   unfolding SameEntries
   plain-part w v b p q r s line scan h f af st wrote g =
-      elim (told ns text g.names p.at r scan z b g.lies g.halts) [
-        | halted e y x₀ ↦ absurd (both_ways (stopping r) h y)
+      elim (told ns text g.names p.at (Some r) scan z b g.lies g.halts) [
+        | halted e y x₀ ↦ absurd (both_ways (stopping (Some r)) h y)
         | plain n ↦
             let qe = af.entry in
+            let same_line : Some r ≡ Some n.line = n.is in
+            let l : r ≡ n.line = cc in
             record {
               rest = n.rest;
               lies = n.next q.at af.next;
@@ -162,27 +138,28 @@ module _ (ns : List (List ℕ)) (text z : List ℕ) (fuel room : ℕ) where
               count = omega (arith, n.lines);
               stands = λ after same c.
                   n.codes_on after p.entry
-                  (same p.entry (omega arith) (omega arith) ∙ wrote.here (suc p.entry) (omega arith) ∙ st ∙ ap (plain_step r) qe)
+                  (same p.entry (omega arith) (omega arith) ∙ wrote.here (suc p.entry) (omega arith) ∙ st ∙ ap (plain_step r) qe ∙ ap (λ (k : Line). plain_step k (suc p.entry)) l)
                   (subst (λ (m : ℕ). Codes (Named ns) text (length ns) (entry_at after) m n.rest) qe c);
             }
-        | branch looped x br e ↦ absurd (both_ways (branching r) f (branch-branching looped x r e))
+        | branch looped x br e ↦ absurd (both_ways (branching (Some r)) f (branch-branching looped x (Some r) e))
       ]
 
   -- A line that is a branch.
-  pub is_branch : (b : Body) (p : Place) (r : Line) (looped : Bool) (x : ℕ) → Scan text p.at r → r ≡ branch_line looped x → Given ns text p.at b z p.entry fuel room → Branches ns text x looped b
+  pub is_branch : (b : Body) (p : Place) (r : Line) (looped : Bool) (x : ℕ) → Scan text p.at (Some r) → r ≡ branch_line looped x → Given ns text p.at b z p.entry fuel room → Branches ns text x looped b
   is_branch b p r looped x scan q g =
-      elim (told ns text g.names p.at r scan z b g.lies g.halts) [
-        | halted e y x₀ ↦ absurd (not-stopping looped x r q y)
-        | plain n ↦ absurd (both_ways (branching r) n.flat (branch-branching looped x r q))
+      elim (told ns text g.names p.at (Some r) scan z b g.lies g.halts) [
+        | halted e y x₀ ↦ absurd (not-stopping looped x (Some r) (ap Some q) y)
+        | plain n ↦ absurd (both_ways (branching (Some r)) n.flat (branch-branching looped x (Some r) (ap Some q)))
         | branch f y br e ↦
-            let h = same_branch f looped y x (sym e ∙ q) in
+            let line : r ≡ branch_line f y = cc in
+            let h = same_branch f looped y x (sym line ∙ q) in
             subst (λ (k : Bool). Branches ns text x k b) h.0 (subst (λ (k : ℕ). Branches ns text k f b) h.1 br)
       ]
 
 -- The else of an if.
 module _ (ns : List (List ℕ)) (text : List ℕ) (fuel room : ℕ) (d : Body) (z : List ℕ) where
   -- Where no else stands there are no second lines.
-  pub no_else : (w : List ℕ) (q : Place) (r : Line) → Scan text q.at r → (r ≡ Otherwise → ⊥) → ElseGiven ns text q.at d z q.entry fuel room
+  no_else : (w : List ℕ) (q : Place) (r : Option Line) → Scan text q.at r → (r ≡ Some Otherwise → ⊥) → ElseGiven ns text q.at d z q.entry fuel room
       → (drop q.at text ≡ codes "end" ++ (10 ∷ z)) × (q.entry ≡ q.entry + else_lines_spec d) × Codes (Named ns) text (length ns) (entry_at w) (suc q.entry) d
   unfolding ended
   no_else w q r scan h g =
@@ -195,11 +172,11 @@ module _ (ns : List (List ℕ)) (text : List ℕ) (fuel room : ℕ) (d : Body) (
         | some u s y ↦ absurd (h (keyword-scan text (10 ∷ (u ++ (codes "end" ++ (10 ∷ z)))) q.at r Else scan (g.here ∙ ap (λ t. t ++ (codes "end" ++ (10 ∷ z))) y) refl).2)
       ]
 
-  otherwise-close : (r : Line) → r ≡ Close → r ≡ Otherwise → ⊥
-  otherwise-close r p q = let e : Close ≡ Otherwise = sym p ∙ q in let n : ◌≡◌ {A = ℕ} 0 1 = cc in omega arith
+  otherwise-close : (r : Option Line) → r ≡ Some Close → r ≡ Some Otherwise → ⊥
+  otherwise-close r p q = let e : Some Close ≡ Some Otherwise = sym p ∙ q in cc
 
   -- Where an else stands, the lines behind it are those of the second body.
-  pub given-second : (q i : Place) (r : Line) → Scan text q.at r → r ≡ Otherwise → After text q i → ElseGiven ns text q.at d z q.entry fuel room
+  pub given-second : (q i : Place) (r : Option Line) → Scan text q.at r → r ≡ Some Otherwise → After text q i → ElseGiven ns text q.at d z q.entry fuel room
       → Given ns text i.at d (codes "end" ++ (10 ∷ z)) i.entry fuel room
   unfolding each_byte
   given-second q i r scan h af g =
@@ -229,3 +206,14 @@ module _ (ns : List (List ℕ)) (text : List ℕ) (fuel room : ℕ) (d : Body) (
         | inl y ↦ absurd (h (omega (arith, done.count, no_lines d (ended_is d y))))
         | inr y ↦ (done.there, omega (arith, done.count, af.entry, else-some d y), subst (λ (m : ℕ). Codes (Named ns) text (length ns) (entry_at w) m d) af.entry done.stands)
       ]
+
+-- Where no else stands nothing is made.
+pub else-missing : (text words : List ℕ) (fuel room : ℕ) (q : Place) (r : Option Line) → Scan text q.at r → (r ≡ Some Otherwise → ⊥) → q.at ≤ length text → q.entry < room → ElseMade text words words fuel room q q
+else-missing text words fuel room q r scan h w f =
+    record {
+      within = w;
+      up = omega arith;
+      fits = omega arith;
+      kept = kept-none words (suc q.entry) (suc q.entry);
+      done = λ ns d z g. no_else ns text fuel room d z words q r scan h g;
+    }

@@ -1,5 +1,5 @@
 -- What a line tells of the body that stands there, and where the lines behind it stand.
-use Rattle.std.proofs.Common.{◌≡◌, ℕ, ◌+◌, ◌≤◌, Bool, true, false, List, [], ◌∷◌, ◌++◌, length, drop, codes, refl, ap, arith}
+use Rattle.std.proofs.Common.{◌≡◌, ℕ, ◌+◌, ◌≤◌, Bool, true, false, List, [], ◌∷◌, ◌++◌, length, drop, Some, codes, Option, refl, ap, ◌∙◌, arith}
 use Rattle.std.proofs.lemmas.List.{length-drop}
 use Rattle.lanes.specs.Syntax.{Expr, fixed, var, lane, group, lanes, plus, minus, times, over, rest_of, less, same}
 use Rattle.grammar.specs.declared.keywords.Keyword.{Keyword}
@@ -62,35 +62,31 @@ module _ (ns : List (List ℕ)) (text : List ℕ) (names : Names ns text) where
   stands-last : (e : Expr) (u t : List ℕ) (x : ℕ) → SpellsExpr (Named ns) e u → drop x text ≡ u ++ (10 ∷ t) → Stands (Named ns) text x e
   stands-last e u t x s h = record { spelling = u; behind = 10 ∷ t; spells = s; here = h; apart = refl }
 
-  -- A line with what it tells, for an expression: r is the line with the byte where it stands.
-  OneLine : (Expr) → (ℕ → Line) → Line → Type 0
-  OneLine e of-it r = (x : ℕ) × Stands (Named ns) text x e × (r ≡ of-it x)
-
-  module _ (at : ℕ) (r : Line) (scan : Scan text at r) where
+  module _ (at : ℕ) (r : Option Line) (scan : Scan text at r) where
     pub put-line : (k : ℕ) (e : Expr) (a u t : List ℕ) → Named ns k a → SpellsExpr (Named ns) e u → drop at text ≡ a ++ (codes " = " ++ (u ++ (10 ∷ t)))
-        → (x : ℕ) × Stands (Named ns) text x e × (r ≡ Put k x)
+        → (x : ℕ) × Stands (Named ns) text x e × (r ≡ Some (Put k x))
     put-line k e a u t n s h =
         let v = named-scan ns text a (u ++ (10 ∷ t)) at k r names n scan h in
-        let st = stands-last e u t v.0 s v.2 in
-        (v.0, st, value-expr ns text k v.0 r e names v.1 st)
+        let st = stands-last e u t v.0 s v.4 in
+        (v.0, st, v.2 ∙ ap Some (value-expr ns text k v.0 v.1 e names v.3 st))
 
     pub read-line : (k : ℕ) (e : Expr) (a u t : List ℕ) → Named ns k a → SpellsExpr (Named ns) e u → drop at text ≡ a ++ (codes " = cell " ++ (u ++ (10 ∷ t)))
-        → (x : ℕ) × Stands (Named ns) text x e × (r ≡ Read false k x)
+        → (x : ℕ) × Stands (Named ns) text x e × (r ≡ Some (Read false k x))
     read-line k e a u t n s h =
         let v = named-scan ns text a (codes "cell" ++ (32 ∷ (u ++ (10 ∷ t)))) at k r names n scan h in
-        let w = value-keyword text (u ++ (10 ∷ t)) k v.0 r Cell v.1 v.2 in
-        (w.0 + 1, stands-last e u t (w.0 + 1) s w.2, w.1)
+        let w = value-keyword text (u ++ (10 ∷ t)) k v.0 v.1 Cell v.3 v.4 in
+        (w.0 + 1, stands-last e u t (w.0 + 1) s w.2, v.2 ∙ ap Some w.1)
 
     pub read-line-field : (k : ℕ) (e : Expr) (a u t : List ℕ) → Named ns k a → SpellsExpr (Named ns) e u → drop at text ≡ a ++ (codes " = field " ++ (u ++ (10 ∷ t)))
-        → (x : ℕ) × Stands (Named ns) text x e × (r ≡ Read true k x)
+        → (x : ℕ) × Stands (Named ns) text x e × (r ≡ Some (Read true k x))
     read-line-field k e a u t n s h =
         let v = named-scan ns text a (codes "field" ++ (32 ∷ (u ++ (10 ∷ t)))) at k r names n scan h in
-        let w = value-keyword text (u ++ (10 ∷ t)) k v.0 r Field v.1 v.2 in
-        (w.0 + 1, stands-last e u t (w.0 + 1) s w.2, w.1)
+        let w = value-keyword text (u ++ (10 ∷ t)) k v.0 v.1 Field v.3 v.4 in
+        (w.0 + 1, stands-last e u t (w.0 + 1) s w.2, v.2 ∙ ap Some w.1)
 
     -- A cell is written: two expressions.
     two : (f : Bool) (j : Keyword) (e g : Expr) (u v t : List ℕ) (stop : ℕ) → SpellsExpr (Named ns) e u → SpellsExpr (Named ns) g v → drop stop text ≡ 32 ∷ (u ++ (codes " = " ++ (v ++ (10 ∷ t))))
-        → WriteScan text f (stop + 1) r → (x : ℕ) × (y : ℕ) × Stands (Named ns) text x e × Stands (Named ns) text y g × (r ≡ Write f x y)
+        → WriteScan text f (stop + 1) r → (x : ℕ) × (y : ℕ) × Stands (Named ns) text x e × Stands (Named ns) text y g × (r ≡ Some (Write f x y))
     unfolding EndsAt
     two f j e g u v t stop s p h w =
         let on : drop (stop + 1) text ≡ u ++ (codes " = " ++ (v ++ (10 ∷ t))) = drop-on text (32 ∷ []) _ stop (stop + 1) h refl in
@@ -101,23 +97,23 @@ module _ (ns : List (List ℕ)) (text : List ℕ) (names : Names ns text) where
         (stop + 1, y.0 + 3, st, stands-last g v t (y.0 + 3) p (drop-on text (codes " = ") (v ++ (10 ∷ t)) y.0 (y.0 + 3) q refl), y.2)
 
     pub write-line : (e g : Expr) (u v t : List ℕ) → SpellsExpr (Named ns) e u → SpellsExpr (Named ns) g v → drop at text ≡ codes "cell " ++ (u ++ (codes " = " ++ (v ++ (10 ∷ t))))
-        → (x : ℕ) × (y : ℕ) × Stands (Named ns) text x e × Stands (Named ns) text y g × (r ≡ Write false x y)
+        → (x : ℕ) × (y : ℕ) × Stands (Named ns) text x e × Stands (Named ns) text y g × (r ≡ Some (Write false x y))
     write-line e g u v t s p h =
         let k = keyword-scan text (32 ∷ (u ++ (codes " = " ++ (v ++ (10 ∷ t))))) at r Cell scan h refl in
         two false Cell e g u v t k.0 s p (drop-on text (codes "cell") _ at k.0 h k.1) k.2
 
     pub write-line-field : (e g : Expr) (u v t : List ℕ) → SpellsExpr (Named ns) e u → SpellsExpr (Named ns) g v → drop at text ≡ codes "field " ++ (u ++ (codes " = " ++ (v ++ (10 ∷ t))))
-        → (x : ℕ) × (y : ℕ) × Stands (Named ns) text x e × Stands (Named ns) text y g × (r ≡ Write true x y)
+        → (x : ℕ) × (y : ℕ) × Stands (Named ns) text x e × Stands (Named ns) text y g × (r ≡ Some (Write true x y))
     write-line-field e g u v t s p h =
         let k = keyword-scan text (32 ∷ (u ++ (codes " = " ++ (v ++ (10 ∷ t))))) at r Field scan h refl in
         two true Field e g u v t k.0 s p (drop-on text (codes "field") _ at k.0 h k.1) k.2
 
-    pub test-line : (e : Expr) (u t : List ℕ) → SpellsExpr (Named ns) e u → drop at text ≡ codes "if " ++ (u ++ (10 ∷ t)) → (x : ℕ) × Stands (Named ns) text x e × (r ≡ Test x)
+    pub test-line : (e : Expr) (u t : List ℕ) → SpellsExpr (Named ns) e u → drop at text ≡ codes "if " ++ (u ++ (10 ∷ t)) → (x : ℕ) × Stands (Named ns) text x e × (r ≡ Some (Test x))
     test-line e u t s h =
         let k = keyword-scan text (32 ∷ (u ++ (10 ∷ t))) at r If scan h refl in
         (k.0 + 1, stands-last e u t (k.0 + 1) s (drop-on text (32 ∷ []) _ k.0 (k.0 + 1) (drop-on text (codes "if") _ at k.0 h k.1) refl), k.2)
 
-    pub loop-line : (e : Expr) (u t : List ℕ) → SpellsExpr (Named ns) e u → drop at text ≡ codes "while " ++ (u ++ (10 ∷ t)) → (x : ℕ) × Stands (Named ns) text x e × (r ≡ Loop x)
+    pub loop-line : (e : Expr) (u t : List ℕ) → SpellsExpr (Named ns) e u → drop at text ≡ codes "while " ++ (u ++ (10 ∷ t)) → (x : ℕ) × Stands (Named ns) text x e × (r ≡ Some (Loop x))
     loop-line e u t s h =
         let k = keyword-scan text (32 ∷ (u ++ (10 ∷ t))) at r While scan h refl in
         (k.0 + 1, stands-last e u t (k.0 + 1) s (drop-on text (32 ∷ []) _ k.0 (k.0 + 1) (drop-on text (codes "while") _ at k.0 h k.1) refl), k.2)

@@ -1,13 +1,12 @@
 -- Parts of a text from a byte on.
-use Rattle.std.proofs.Common.{◌≡◌, ℕ, suc, ◌+◌, ◌-◌, ◌<◌, ◌≤◌, Bool, true, ◌≢◌, List, [], ◌∷◌, ◌++◌, length, get_or, take, drop, sym, refl, ap, ◌∙◌, inl, inr, add-zero, arith}
-use Rattle.std.specs.List.{between}
+use Rattle.std.proofs.Common.{◌≡◌, ℕ, suc, ◌+◌, ◌-◌, ◌<◌, ◌≤◌, Bool, true, ◌≢◌, List, [], ◌∷◌, ◌++◌, length, get_or, take, drop, position, eqb, Some, Option, not, sym, refl, ap, ◌∙◌, add-zero, arith}
+use Rattle.std.specs.List.{between, prefix_len}
 use Rattle.std.proofs.lemmas.List.{drop_at, drop-drop, take_at, length-append, length-drop, at_drop_more, get_or-drop}
-use Rattle.std.proofs.lemmas.Bool.{and_parts, and_from, cases_order, eq-eqb, ne_eqb, le-leb, lt-leb}
-use Rattle.std.proofs.lemmas.Bool.Decides.{nat_tests}
+use Rattle.std.proofs.lemmas.Bool.{and_parts, and_from, eq-eqb, ne_eqb, le-leb, lt-leb, lt-ltb}
 use Rattle.grammar.specs.Spelling.{word_byte, each_byte}
 use Rattle.grammar.specs.Stands.{Apart}
 use Rattle.grammar.specs.Words.{WordEnd}
-use Rattle.grammar.proofs.Scanned.{byte_at, at_part, behind-part, word-ends}
+use Rattle.grammar.proofs.Scanned.{word-ends}
 use Rattle.code.specs.Scan.{in_line, closing}
 
 -- Behind what stands at byte i.
@@ -29,29 +28,20 @@ within text u z i b e =
     let n : length (drop i text) ≡ length u + length (b ∷ z) = ap length e ∙ length-append u (b ∷ z) in
     omega (arith, n, length-drop i text)
 
-in_line-not : (b : ℕ) → in_line b ≡ true → b ≢ 10
-in_line-not b h = grind (arith, nat_tests)
+-- The first line of these bytes ends where they say.
+line_len : (u z : List ℕ) → each_byte in_line u ≡ true → prefix_len (λ (b : ℕ). not (eqb b 10)) (u ++ (10 ∷ z)) ≡ length u
+unfolding each_byte
+line_len [] z h = refl
+line_len (b ∷ u) z h = let p = and_parts (in_line b) (each_byte in_line u) h in rw p.0 (omega (arith, line_len u z p.1))
 
--- The line that begins at i ends at r.
-pub line-ends : (text u z : List ℕ) (i r : ℕ) → drop i text ≡ u ++ (10 ∷ z) → each_byte in_line u ≡ true → i ≤ r → r < length text → ((k : ℕ) → i ≤ k → k < r → get_or text k 0 ≢ 10)
-    → get_or text r 0 ≡ 10 → r ≡ i + length u
-line-ends text u z i r e h f w none here =
-    elim (cases_order r (i + length u)) [
-      | inl p ↦ p
-      | inr (inl p) ↦
-          let k : r - i < length u = omega arith in
-          let q : get_or text r 0 ≡ get_or u (r - i) 0 = ap (λ m. get_or text m 0) (omega arith) ∙ at_part text u (10 ∷ z) i (r - i) e k in
-          absurd (in_line-not _ (byte_at in_line u (r - i) h k) (sym q ∙ here))
-      | inr (inr p) ↦
-          let q : get_or text (i + length u) 0 ≡ 10 = ap (λ m. get_or text m 0) (omega arith) ∙ behind-part text u (10 ∷ z) i 0 e in
-          absurd (none (i + length u) (omega arith) p q)
-    ]
+pub line-at : (u z : List ℕ) → each_byte in_line u ≡ true → position (λ (b : ℕ). eqb b 10) (u ++ (10 ∷ z)) ≡ Some (length u)
+line-at u z h =
+    let long : length u < length (u ++ (10 ∷ z)) = simp length-append (omega arith) in
+    rw (line_len u z h, lt-ltb (length u) (length (u ++ (10 ∷ z))) long)
 
--- A text that has no byte 10 from i on has no line there.
-pub no_line : (text u z : List ℕ) (i : ℕ) → drop i text ≡ u ++ (10 ∷ z) → ((k : ℕ) → i ≤ k → k < length text → get_or text k 0 ≢ 10) → ⊥
-no_line text u z i e none =
-    let q : get_or text (i + length u) 0 ≡ 10 = ap (λ m. get_or text m 0) (omega arith) ∙ behind-part text u (10 ∷ z) i 0 e in
-    none (i + length u) (omega arith) (within text u z i 10 e) q
+-- Where a line ends that these bytes begin with, if the search for its end found n.
+pub line-found : (text u z : List ℕ) (i : ℕ) (n : Option ℕ) → n ≡ position (λ (b : ℕ). eqb b 10) (drop i text) → drop i text ≡ u ++ (10 ∷ z) → each_byte in_line u ≡ true → n ≡ Some (length u)
+line-found text u z i n q e h = q ∙ ap (position (λ (b : ℕ). eqb b 10)) e ∙ line-at u z h
 
 -- One byte further in the search for a closing bracket.
 pub closing-open : (d b : ℕ) (bs : List ℕ) → b ≡ 40 → closing d (b ∷ bs) ≡ suc (closing (suc d) bs)

@@ -1,5 +1,5 @@
 -- Whole texts: where the body begins, and how many lines there are.
-use Rattle.std.proofs.Common.{◌≡◌, ℕ, suc, ◌+◌, ◌*◌, ◌<◌, ◌≤◌, true, cond, ◌&&◌, eqb, ltb, ◌≢◌, List, [], ◌∷◌, ◌++◌, length, get_or, drop, codes, sym, refl, ap, ◌∙◌, subst, inl, inr, append_assoc, arith}
+use Rattle.std.proofs.Common.{◌≡◌, ℕ, suc, ◌+◌, ◌*◌, ◌<◌, ◌≤◌, true, cond, ◌&&◌, eqb, ltb, ◌≢◌, List, [], ◌∷◌, ◌++◌, length, get_or, drop, codes, Some, None, Option, sym, refl, ap, ◌∙◌, subst, inl, inr, append_assoc, arith, MatchOption}
 use Rattle.std.specs.List.{flat_map}
 use Rattle.std.proofs.lemmas.List.{append-nil, get_or-take}
 use Rattle.std.proofs.lemmas.Bool.{cases_Bool, both_ways, and_parts, ltb-true, lt-ltb, le-ltb}
@@ -261,9 +261,23 @@ compiled ns p text words after room q r t z g made =
       },
     )
 
+-- The entries that a text which was taken is made into, behind the lines that stand before its body; n is how many there are.
+pub whole : (ns : List (List ℕ)) (p : Program) (text words after : List ℕ) (room n : ℕ) (top first start : Place) (o : Option Place) → Taken ns p text → top.at ≡ 0 → top.entry ≡ 0 → Skipped text top first
+    → Skipped text first start → lines_in text ≤ room → MatchOption o ((ms : List (List ℕ)) (b : Body) (z : List ℕ) → Given ms text start.at b z start.entry 16 room → ⊥) (λ q. LinesMade text words after 16 room start q)
+    → MatchOption o (n ≡ 0) (λ q. n ≡ q.entry) → Compiled ns p text words after n × Joining after n
+whole ns p text words after room n top first start o t z e a b r made many =
+    let zero : start.entry ≡ 0 = b.entry ∙ a.entry ∙ e in
+    let given = body-given ns p text t start room zero (body-start ns p text t top first start z a b) r in
+    by o made many zero given
+  where
+    by : (o : Option Place) → MatchOption o ((ms : List (List ℕ)) (b : Body) (z : List ℕ) → Given ms text start.at b z start.entry 16 room → ⊥) (λ q. LinesMade text words after 16 room start q)
+        → MatchOption o (n ≡ 0) (λ q. n ≡ q.entry) → start.entry ≡ 0 → Given ns text start.at p.body [] start.entry 16 room → Compiled ns p text words after n × Joining after n
+    by None f m zero g = absurd (f ns p.body [] g)
+    by (Some q) f m zero g = subst (λ (k : ℕ). Compiled ns p text words after k × Joining after k) (sym m) (compiled ns p text words after room start q t zero g f)
+
 -- A heading, and what is none.
-module _ (text : List ℕ) (p : Place) (r : Line) (scan : Scan text p.at r) where
-  pub no-heading : (r ≡ Heading → ⊥) → p.at ≤ length text → Skipped text p p
+module _ (text : List ℕ) (p : Place) (r : Option Line) (scan : Scan text p.at r) where
+  pub no-heading : (r ≡ Some Heading → ⊥) → p.at ≤ length text → Skipped text p p
   no-heading h w =
       record {
         within = w;
@@ -274,7 +288,7 @@ module _ (text : List ℕ) (p : Place) (r : Line) (scan : Scan text p.at r) wher
         stays = λ ns b z n l e. refl;
       }
 
-  pub past-heading : (q : Place) → r ≡ Heading → q.at ≤ length text → q.entry ≡ p.entry → (p.line < 4294967295 → q.line ≡ suc p.line) → NextLine text p.at q.at → Skipped text p q
+  pub past-heading : (q : Place) → r ≡ Some Heading → q.at ≤ length text → q.entry ≡ p.entry → (p.line < 4294967295 → q.line ≡ suc p.line) → NextLine text p.at q.at → Skipped text p q
   unfolding each_byte
   past-heading q h w e up n =
       record {

@@ -1,5 +1,5 @@
 -- How a text that was taken is made into steps.
-use Rattle.std.specs.Prelude.{◌≡◌, ℕ, suc, ◌+◌, ◌*◌, ◌<◌, ◌≤◌, Bool, true, false, cond, ◌⊎◌, List, [], ◌∷◌, ◌++◌, length, drop, codes, ◌≢◌, slice_index}
+use Rattle.std.specs.Prelude.{◌≡◌, ℕ, suc, ◌+◌, ◌*◌, ◌<◌, ◌≤◌, Bool, true, false, cond, ◌⊎◌, List, [], ◌∷◌, ◌++◌, length, drop, Some, None, codes, Option, ◌≢◌, slice_index}
 use Rattle.lanes.specs.Syntax.{Body, Expr, Program, end, when, while}
 use Rattle.grammar.specs.Spelling.{Named, SpellsBody, each_byte}
 use Rattle.grammar.specs.Stands.{Stands, Apart}
@@ -8,7 +8,7 @@ use Rattle.grammar.specs.Taken.{depth, lines_in}
 use Rattle.code.specs.declared.step.Step.{Step}
 use Rattle.code.specs.declared.step.Step.TheVariants.{Put as SPut, Read as SRead, Write as SWrite, Branch as SBranch, Jump as SJump, Barrier as SBarrier, End as SEnd}
 use Rattle.code.specs.declared.scan.Line.{Line}
-use Rattle.code.specs.declared.scan.Line.TheVariants.{Heading, Put, Read, Write, Wait, Test, Loop, Otherwise, Close, Nothing}
+use Rattle.code.specs.declared.scan.Line.TheVariants.{Heading, Put, Read, Write, Wait, Test, Loop, Otherwise, Close}
 use Rattle.code.specs.declared.compile.Place.{Place}
 use Rattle.code.specs.Lines.{lines_of, else_lines_spec, left_at}
 use Rattle.code.specs.Words.{step_at, text_line_spec}
@@ -30,18 +30,18 @@ pub record Kept (words after : List ℕ) (o e : ℕ) : Type 0 where
 unfoldable pub SameEntries : List ℕ → List ℕ → ℕ → ℕ → Type 0
 SameEntries words after o e = (i : ℕ) → o ≤ i → i < e → entry_at after i ≡ entry_at words i
 
--- The line is none of a body's: what stands before it is a whole body.
-abbrev pub stopping : Line → Bool
-stopping Heading = true
-stopping (Put k x) = false
-stopping (Read f k x) = false
-stopping (Write f x y) = false
-stopping Wait = false
-stopping (Test x) = false
-stopping (Loop x) = false
-stopping Otherwise = true
-stopping Close = true
-stopping Nothing = true
+-- There is no line, or it is none of a body's: what stands before it is a whole body.
+abbrev pub stopping : Option Line → Bool
+stopping None = true
+stopping (Some Heading) = true
+stopping (Some (Put k x)) = false
+stopping (Some (Read f k x)) = false
+stopping (Some (Write f x y)) = false
+stopping (Some Wait) = false
+stopping (Some (Test x)) = false
+stopping (Some (Loop x)) = false
+stopping (Some Otherwise) = true
+stopping (Some Close) = true
 
 -- The step of a line that is no branch, with the next entry.
 abbrev pub plain_step : Line → ℕ → Step
@@ -54,7 +54,6 @@ plain_step (Test x) n = SEnd
 plain_step (Loop x) n = SEnd
 plain_step Otherwise n = SEnd
 plain_step Close n = SEnd
-plain_step Nothing n = SEnd
 
 -- From byte i on the text has the lines of the body b, and then z.
 pub record Lies (ns : List (List ℕ)) (text : List ℕ) (i : ℕ) (b : Body) (z : List ℕ) : Type 0 where

@@ -1,5 +1,5 @@
 -- What one line of a text says: its first word decides, then where its expressions stand.
-use Rattle.std.specs.Prelude.{◌≡◌, ℕ, suc, ◌+◌, ◌-◌, ◌<◌, ◌≤◌, Bool, true, false, cond, not, List, [], ◌∷◌, length, drop, Some, None, Option, MatchOption, ◌==◌, ◌≢◌, nat_le, slice_index_or}
+use Rattle.std.specs.Prelude.{◌≡◌, ℕ, suc, ◌+◌, ◌-◌, ◌<◌, ◌≤◌, Bool, true, false, cond, not, List, [], ◌∷◌, length, drop, Some, None, Option, IsSomeAnd, MatchOption, ◌==◌, ◌≢◌, nat_le, slice_index_or}
 use Rattle.std.specs.List.{between}
 use Rattle.lanes.specs.Syntax.{Expr}
 use Rattle.grammar.specs.declared.keywords.Keyword.{Keyword}
@@ -10,7 +10,7 @@ use Rattle.grammar.specs.Words.{WordEnd}
 use Rattle.grammar.specs.Names.{NamesIn, PlaceOf}
 use Rattle.grammar.specs.Runs.{written}
 use Rattle.code.specs.declared.scan.Line.{Line}
-use Rattle.code.specs.declared.scan.Line.TheVariants.{Heading, Put, Read, Write, Wait, Test, Loop, Otherwise, Close, Nothing}
+use Rattle.code.specs.declared.scan.Line.TheVariants.{Heading, Put, Read, Write, Wait, Test, Loop, Otherwise, Close}
 
 -- A byte that does not end a line.
 abbrev pub in_line : ℕ → Bool
@@ -54,37 +54,37 @@ pub record ValueScan (text : List ℕ) (k x : ℕ) (r : Line) : Type 0 where
   pub is_word : WordIs word (between x stop text)
   pub is : r ≡ value_line k x stop word
 
-abbrev pub NamedBy : List ℕ → ℕ → Option ℕ → Line → Type 0
-NamedBy text e None r = r ≡ Nothing
-NamedBy text e (Some k) r = e + 3 ≤ length text → ValueScan text k (e + 3) r
+abbrev pub NamedBy : List ℕ → ℕ → Option ℕ → Option Line → Type 0
+NamedBy text e None r = r ≡ None
+NamedBy text e (Some k) r = e + 3 ≤ length text → IsSomeAnd r (ValueScan text k (e + 3))
 
 -- A line that begins with a name, which ends at byte e.
-pub record NamedScan (text : List ℕ) (at e : ℕ) (r : Line) : Type 0 where
+pub record NamedScan (text : List ℕ) (at e : ℕ) (r : Option Line) : Type 0 where
   pub own : Option ℕ
   pub is_own : (ns : List (List ℕ)) → NamesIn ns text → PlaceOf ns (between at e text) own
   pub by : NamedBy text e own r
 
 -- A line that writes a cell, whose place stands at byte x.
-abbrev pub WriteScan : List ℕ → Bool → ℕ → Line → Type 0
-WriteScan text f x r = x ≤ length text → (y : ℕ) × EndsAt text x y × (r ≡ Write f x (y + 3))
+abbrev pub WriteScan : List ℕ → Bool → ℕ → Option Line → Type 0
+WriteScan text f x r = x ≤ length text → (y : ℕ) × EndsAt text x y × (r ≡ Some (Write f x (y + 3)))
 
-abbrev pub ScanBy : List ℕ → ℕ → ℕ → Option Keyword → Line → Type 0
+abbrev pub ScanBy : List ℕ → ℕ → ℕ → Option Keyword → Option Line → Type 0
 ScanBy text at e None r = NamedScan text at e r
-ScanBy text at e (Some Own) r = r ≡ Heading
-ScanBy text at e (Some Cells) r = r ≡ Heading
+ScanBy text at e (Some Own) r = r ≡ Some Heading
+ScanBy text at e (Some Cells) r = r ≡ Some Heading
 ScanBy text at e (Some Cell) r = WriteScan text false (e + 1) r
 ScanBy text at e (Some Field) r = WriteScan text true (e + 1) r
-ScanBy text at e (Some Barrier) r = r ≡ Wait
-ScanBy text at e (Some If) r = r ≡ Test (e + 1)
-ScanBy text at e (Some Else) r = r ≡ Otherwise
-ScanBy text at e (Some End) r = r ≡ Close
-ScanBy text at e (Some While) r = r ≡ Loop (e + 1)
-ScanBy text at e (Some Lane) r = r ≡ Nothing
-ScanBy text at e (Some Group) r = r ≡ Nothing
-ScanBy text at e (Some Lanes) r = r ≡ Nothing
+ScanBy text at e (Some Barrier) r = r ≡ Some Wait
+ScanBy text at e (Some If) r = r ≡ Some (Test (e + 1))
+ScanBy text at e (Some Else) r = r ≡ Some Otherwise
+ScanBy text at e (Some End) r = r ≡ Some Close
+ScanBy text at e (Some While) r = r ≡ Some (Loop (e + 1))
+ScanBy text at e (Some Lane) r = r ≡ None
+ScanBy text at e (Some Group) r = r ≡ None
+ScanBy text at e (Some Lanes) r = r ≡ None
 
--- The line that begins at byte `at`.
-pub record Scan (text : List ℕ) (at : ℕ) (r : Line) : Type 0 where
+-- The line that begins at byte `at`, if one does.
+pub record Scan (text : List ℕ) (at : ℕ) (r : Option Line) : Type 0 where
   pub stop : ℕ
   pub ends : WordEnd text at stop
   pub word : Option Keyword

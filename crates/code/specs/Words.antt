@@ -29,6 +29,15 @@ step_at words lines i =
 unfoldable pub text_line_spec : List ℕ → ℕ → ℕ
 text_line_spec words i = slice_index words (i * 16 + 15)
 
+-- The words of entry i: what kind of step it is, four that it works with, and the line of the text.
+pub record EntryAt (words : List ℕ) (i : ℕ) (e : List ℕ) : Type 0 where
+  pub kind : slice_index e 0 ≡ slice_index words (i * 16)
+  pub first : slice_index e 1 ≡ slice_index words (i * 16 + 1)
+  pub second : slice_index e 2 ≡ slice_index words (i * 16 + 2)
+  pub third : slice_index e 3 ≡ slice_index words (i * 16 + 3)
+  pub fourth : slice_index e 4 ≡ slice_index words (i * 16 + 4)
+  pub line : slice_index e 15 ≡ slice_index words (i * 16 + 15)
+
 -- The words after entry i was written: it is the step, and the line of the text; every other word is as it was.
 pub record Wrote (words after : List ℕ) (i : ℕ) (s : Step) (line : ℕ) : Type 0 where
   pub here : (lines : ℕ) → i < lines → step_at after lines i ≡ s

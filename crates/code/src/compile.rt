@@ -1,5 +1,5 @@
 // A text that was taken, made into steps: recursion over lines, with a falling number for what stands in each other.
-ghost use Rattle.std.specs.Prelude.{◌≡◌, ℕ, ◌+◌, ◌*◌, ◌/◌, ◌^◌, ◌<◌, ◌≤◌, Bool, true, false, List, length, MatchOption};
+ghost use Rattle.std.specs.Prelude.{◌≡◌, ℕ, ◌+◌, ◌*◌, ◌/◌, ◌<◌, ◌≤◌, Bool, true, false, List, length, Some, Option, MatchOption};
 ghost use Rattle.lanes.specs.Syntax.{Body, Program};
 ghost use Rattle.grammar.specs.Taken.{Taken, lines_in};
 ghost use Rattle.code.specs.Scan.{Scan};
@@ -7,7 +7,8 @@ ghost use Rattle.code.specs.Make.{After, stopping, plain_step, Given, LinesMade,
 
 use super::scan::{Line, next_line, scan_line};
 use super::step::Step;
-use super::words::write_entry;
+use super::text::{Source, Text};
+use super::words::{ENTRY, write_entry};
 
 // How deep lines may stand in each other.
 const DEEPEST: usize = 16;
@@ -35,12 +36,9 @@ fn after(text: &[u8], p: Place) -> Place
 
 // The line belongs to no body: a body ends before it.
 fn stops(line: Line) -> bool
-    ensures { result ≡ stopping line }
+    ensures { result ≡ stopping (Some line) }
 {
-    match line {
-        Line::Heading | Line::Otherwise | Line::Close | Line::Nothing => true,
-        _ => false,
-    }
+    matches!(line, Line::Heading | Line::Otherwise | Line::Close)
 }
 
 // The step of a line that is no branch.
@@ -94,30 +92,21 @@ fn close(steps: &mut [u32], p: Place, first: Place, last: Place, looped: bool, e
 
 // The lines of an else, if one stands at `first`; the place of the end behind them, and its entry.
 #[cycle(compile_branch_compile_line_compile_lines_else_lines)]
-fn else_lines(
-    text: &[u8],
-    first: Place,
-    depth: usize,
-    room: usize,
-    steps: &mut [u32],
-) -> Option<Place>
-    requires small { length text.now < 2 ^ 31 }
-    requires within { first.at ≤ length text.now }
-    requires entry { first.entry < room }
-    requires few { room ≤ 1024 }
-    requires room { room ≤ length steps.old / 16 }
-    ensures { MatchOption result ((ns : List (List ℕ)) (d : Body) (z : List ℕ) → ElseGiven ns text.now first.at d z first.entry depth room → ⊥) (λ p. ElseMade text.now steps.old steps.new depth room first p) }
+fn else_lines(of: Source, first: Place, depth: usize, steps: &mut [u32]) -> Option<Place>
+    requires within { first.at ≤ length of.text.bytes.now }
+    requires entry { first.entry < of.room }
+    requires room { of.room ≤ length steps.old / 16 }
+    ensures { MatchOption result ((ns : List (List ℕ)) (d : Body) (z : List ℕ) → ElseGiven ns of.entry.text.bytes.now first.at d z first.entry depth of.entry.room → ⊥) (λ p. ElseMade of.entry.text.bytes.now steps.old steps.new depth of.entry.room first p) }
 {
-    let Line::Otherwise = scan_line(text, first.at) else {
+    let Some(Line::Otherwise) = scan_line(of.text, first.at) else {
         return Some(first);
     };
-    let begin = after(text, first);
-    let second = compile_lines(text, begin, depth, room, steps)?;
+    let begin = after(of.text.bytes, first);
+    let second = compile_lines(of, begin, depth, steps)?;
     if second.entry == begin.entry {
         Some(Place {
-            at: second.at,
-            line: second.line,
             entry: first.entry,
+            ..second
         })
     } else {
         Some(second)
@@ -127,61 +116,49 @@ fn else_lines(
 // An if or a while at p, with what stands in it.
 #[cycle(compile_branch_compile_line_compile_lines_else_lines)]
 fn compile_branch(
-    text: &[u8],
+    of: Source,
     p: Place,
     looped: bool,
     expr: u32,
     depth: usize,
-    room: usize,
     steps: &mut [u32],
 ) -> Option<Place>
-    requires small { length text.now < 2 ^ 31 }
-    requires within { p.at ≤ length text.now }
-    requires entry { p.entry < room }
-    requires few { room ≤ 1024 }
-    requires room { room ≤ length steps.old / 16 }
-    ensures { MatchOption result ((ns : List (List ℕ)) (b : Body) (z : List ℕ) → Given ns text.now p.at b z p.entry depth room → Branches ns text.now expr looped b → ⊥) (λ q. BranchMade text.now steps.old steps.new depth room expr looped p q) }
+    requires within { p.at ≤ length of.text.bytes.now }
+    requires entry { p.entry < of.room }
+    requires room { of.room ≤ length steps.old / 16 }
+    ensures { MatchOption result ((ns : List (List ℕ)) (b : Body) (z : List ℕ) → Given ns of.entry.text.bytes.now p.at b z p.entry depth of.entry.room → Branches ns of.entry.text.bytes.now expr looped b → ⊥) (λ q. BranchMade of.entry.text.bytes.now steps.old steps.new depth of.entry.room expr looped p q) }
 {
     if depth == 0 {
         return None;
     }
-    let inside = after(text, p);
-    let first = compile_lines(text, inside, depth - 1, room, steps)?;
-    if first.entry >= room {
+    let inside = after(of.text.bytes, p);
+    let first = compile_lines(of, inside, depth - 1, steps)?;
+    if first.entry >= of.room {
         return None;
     }
-    let last = else_lines(text, first, depth - 1, room, steps)?;
-    if last.entry >= room {
+    let last = else_lines(of, first, depth - 1, steps)?;
+    if last.entry >= of.room {
         return None;
     }
     close(steps, p, first, last, looped, expr);
-    Some(after(text, last))
+    Some(after(of.text.bytes, last))
 }
 
 // The line at p, with what stands in it.
 #[cycle(compile_branch_compile_line_compile_lines_else_lines)]
-fn compile_line(
-    text: &[u8],
-    p: Place,
-    line: Line,
-    depth: usize,
-    room: usize,
-    steps: &mut [u32],
-) -> Option<Place>
-    requires small { length text.now < 2 ^ 31 }
-    requires within { p.at ≤ length text.now }
-    requires entry { p.entry < room }
-    requires few { room ≤ 1024 }
-    requires room { room ≤ length steps.old / 16 }
-    requires scanned { Scan text.now p.at line }
-    requires goes { stopping line ≡ false }
-    ensures { MatchOption result ((ns : List (List ℕ)) (b : Body) (z : List ℕ) → Given ns text.now p.at b z p.entry depth room → ⊥) (λ q. LineMade text.now steps.old steps.new depth room p q) }
+fn compile_line(of: Source, p: Place, line: Line, depth: usize, steps: &mut [u32]) -> Option<Place>
+    requires within { p.at ≤ length of.text.bytes.now }
+    requires entry { p.entry < of.room }
+    requires room { of.room ≤ length steps.old / 16 }
+    requires scanned { Scan of.text.bytes.now p.at (Some line) }
+    requires goes { stopping (Some line) ≡ false }
+    ensures { MatchOption result ((ns : List (List ℕ)) (b : Body) (z : List ℕ) → Given ns of.entry.text.bytes.now p.at b z p.entry depth of.entry.room → ⊥) (λ q. LineMade of.entry.text.bytes.now steps.old steps.new depth of.entry.room p q) }
 {
     match line {
-        Line::Test { expr } => compile_branch(text, p, false, expr, depth, room, steps),
-        Line::Loop { expr } => compile_branch(text, p, true, expr, depth, room, steps),
+        Line::Test { expr } => compile_branch(of, p, false, expr, depth, steps),
+        Line::Loop { expr } => compile_branch(of, p, true, expr, depth, steps),
         _ => {
-            let next = after(text, p);
+            let next = after(of.text.bytes, p);
             write_entry(steps, p.entry, step_of(line, next.entry as u32), p.line);
             Some(next)
         }
@@ -190,46 +167,39 @@ fn compile_line(
 
 // The lines from a place on, up to an else or an end that belongs to none of them, or the end of the text.
 #[cycle(compile_branch_compile_line_compile_lines_else_lines)]
-fn compile_lines(
-    text: &[u8],
-    from: Place,
-    depth: usize,
-    room: usize,
-    steps: &mut [u32],
-) -> Option<Place>
-    requires small { length text.now < 2 ^ 31 }
-    requires within { from.at ≤ length text.now }
-    requires entry { from.entry ≤ room }
-    requires few { room ≤ 1024 }
-    requires room { room ≤ length steps.old / 16 }
-    ensures { MatchOption result ((ns : List (List ℕ)) (b : Body) (z : List ℕ) → Given ns text.now from.at b z from.entry depth room → ⊥) (λ q. LinesMade text.now steps.old steps.new depth room from q) }
+fn compile_lines(of: Source, from: Place, depth: usize, steps: &mut [u32]) -> Option<Place>
+    requires within { from.at ≤ length of.text.bytes.now }
+    requires entry { from.entry ≤ of.room }
+    requires room { of.room ≤ length steps.old / 16 }
+    ensures { MatchOption result ((ns : List (List ℕ)) (b : Body) (z : List ℕ) → Given ns of.entry.text.bytes.now from.at b z from.entry depth of.entry.room → ⊥) (λ q. LinesMade of.entry.text.bytes.now steps.old steps.new depth of.entry.room from q) }
 {
     let mut p = from;
     loop {
-        let line = scan_line(text, p.at);
+        let Some(line) = scan_line(of.text, p.at) else {
+            return Some(p);
+        };
         if stops(line) {
             return Some(p);
         }
-        if p.entry >= room {
+        if p.entry >= of.room {
             return None;
         }
-        p = compile_line(text, p, line, depth, room, steps)?;
+        p = compile_line(of, p, line, depth, steps)?;
     }
 }
 
 // Behind the line that names own numbers, or that says how many cells there are, if one stands at p; else p.
-fn skip_heading(text: &[u8], p: Place) -> Place
-    requires small { length text.now < 2 ^ 31 }
-    requires within { p.at ≤ length text.now }
-    ensures { Skipped text.now p result }
+fn skip_heading(text: Text, p: Place) -> Place
+    requires { p.at ≤ length text.bytes.now }
+    ensures { Skipped text.entry.bytes.now p result }
 {
-    let Line::Heading = scan_line(text, p.at) else {
+    let Some(Line::Heading) = scan_line(text, p.at) else {
         return p;
     };
     Place {
-        at: next_line(text, p.at),
+        at: next_line(text.bytes, p.at),
         line: p.line.saturating_add(1),
-        entry: p.entry,
+        ..p
     }
 }
 
@@ -242,18 +212,13 @@ pub fn compile(text: &[u8], steps: &mut [u32]) -> usize
     if text.len() >= 0x8000_0000 {
         return 0;
     }
-    let room = (steps.len() / 16).min(1024);
-    let first = skip_heading(
-        text,
-        Place {
-            at: 0,
-            line: 1,
-            entry: 0,
-        },
-    );
-    let start = skip_heading(text, first);
-    match compile_lines(text, start, DEEPEST, room, steps) {
-        Some(end) => end.entry,
-        None => 0,
-    }
+    let text = Text { bytes: text };
+    let room = (steps.len() / ENTRY).min(1024);
+    let top = Place {
+        at: 0,
+        line: 1,
+        entry: 0,
+    };
+    let start = skip_heading(text, skip_heading(text, top));
+    compile_lines(Source { text, room }, start, DEEPEST, steps).map_or(0, |end| end.entry)
 }

@@ -5,6 +5,7 @@ pub mod compile;
 pub mod jumps;
 mod scan;
 pub mod step;
+mod text;
 pub mod words;
 
 ghost use Rattle.code.specs.Code.{CodeRight};

@@ -1,15 +1,16 @@
 // What one line of a text says: the first word decides. This is for texts that were taken; on any other text it is safe, and what it says means nothing.
-ghost use Rattle.std.specs.Prelude.{◌≡◌, ℕ, ◌+◌, ◌^◌, ◌<◌, ◌≤◌, Bool, true, List, ◌∷◌, ◌++◌, length, drop};
+ghost use Rattle.std.specs.Prelude.{◌≡◌, ℕ, ◌+◌, ◌≤◌, Bool, true, List, ◌∷◌, ◌++◌, length, drop, position, ◌==◌};
 ghost use Rattle.grammar.specs.Spelling.{each_byte};
 ghost use Rattle.code.specs.Scan.{in_line, closing, EndsAt, ValueScan, NamedScan, WriteScan, Scan};
 
+use super::text::Text;
 use grammar::bytes::byte;
 use grammar::keywords::{Keyword, keyword_of};
 use grammar::names::name_index;
 use grammar::words::word_end;
 
-// A line: what it says, with the bytes where its expressions stand. `Heading` is the line of the own numbers or of the cells,
-// `Nothing` the end of the text.
+// A line: what it says, with the bytes where its expressions stand. `Heading` is the line of the own numbers or of the cells.
+// Not the grammar's Line, which is of a line that was checked: this one knows headings, and has bytes that fit a step.
 #[derive(Clone, Copy)]
 pub enum Line {
     Heading,
@@ -21,46 +22,46 @@ pub enum Line {
     Loop { expr: u32 },
     Otherwise,
     Close,
-    Nothing,
 }
 
-// Where the next line begins: behind the next byte 10, or at the end of the text.
+// Where the first line ends.
+fn line_end(text: &[u8]) -> Option<usize>
+    ensures { result ≡ position (λ b. b == 10) text.now }
+{
+    text.iter().position(|b| *b == b'\n')
+}
+
+// Where the next line begins: behind the end of this one, or at the end of the text.
 pub fn next_line(text: &[u8], i: usize) -> usize
     requires { i ≤ length text.now }
     ensures within { result ≤ length text.now }
     ensures on { (u z : List ℕ) → drop i text.now ≡ u ++ (10 ∷ z) → each_byte in_line u ≡ true → drop result text.now ≡ z }
 {
-    let mut end = i;
-    while end < text.len() {
-        if text[end] == 10 {
-            return end + 1;
-        }
-        end += 1;
+    match line_end(&text[i..]) {
+        Some(n) => i + n + 1,
+        None => text.len(),
     }
-    end
 }
 
-// Where the bracket that opens at byte i closes: behind its last byte.
-fn bracket_end(text: &[u8], i: usize) -> usize
-    requires { i ≤ length text.now }
+// How many bytes it is to where the bracket closes that the text begins with: behind its last byte.
+fn bracket_len(text: &[u8]) -> usize
     ensures within { result ≤ length text.now }
-    ensures is { result ≡ i + closing 0 (drop i text.now) }
+    ensures is { result ≡ closing 0 text.now }
 {
     let mut depth: usize = 0;
-    let mut at = i;
-    while at < text.len() {
-        let b = text[at];
-        at += 1;
-        if b == 40 {
-            depth += 1;
-        } else if b == 41 {
-            if depth <= 1 {
-                return at;
+    for (i, b) in text.iter().enumerate() {
+        match b {
+            b'(' => depth += 1,
+            b')' => {
+                if depth <= 1 {
+                    return i + 1;
+                }
+                depth -= 1;
             }
-            depth -= 1;
+            _ => {}
         }
     }
-    at
+    text.len()
 }
 
 // Where the expression that stands at byte i ends.
@@ -69,21 +70,20 @@ fn expr_end(text: &[u8], i: usize) -> usize
     ensures within { result ≤ length text.now }
     ensures is { EndsAt text.now i result }
 {
-    if byte(text, i) == 40 {
-        bracket_end(text, i)
+    if byte(text, i) == b'(' {
+        i + bracket_len(&text[i..])
     } else {
         word_end(text, i)
     }
 }
 
 // What own number k becomes, from byte x on: a cell, or an expression.
-fn value_line(text: &[u8], own: u32, x: usize) -> Line
-    requires small { length text.now < 2 ^ 31 }
-    requires within { x ≤ length text.now }
-    ensures { ValueScan text.now own x result }
+fn value_line(text: Text, own: u32, x: usize) -> Line
+    requires { x ≤ length text.bytes.now }
+    ensures { ValueScan text.entry.bytes.now own x result }
 {
-    let end = word_end(text, x);
-    match keyword_of(&text[x..end]) {
+    let end = word_end(text.bytes, x);
+    match keyword_of(&text.bytes[x..end]) {
         Some(Keyword::Cell) => Line::Read {
             field: false,
             own,
@@ -102,61 +102,53 @@ fn value_line(text: &[u8], own: u32, x: usize) -> Line
 }
 
 // A line that begins with a name, which ends at byte e.
-fn named_line(text: &[u8], at: usize, e: usize) -> Line
-    requires small { length text.now < 2 ^ 31 }
-    requires within { e ≤ length text.now }
-    ensures { NamedScan text.now at e result }
+fn named_line(text: Text, at: usize, e: usize) -> Option<Line>
+    requires { e ≤ length text.bytes.now }
+    ensures { NamedScan text.entry.bytes.now at e result }
 {
-    let Some(own) = name_index(text, at, e) else {
-        return Line::Nothing;
-    };
-    if e + 3 <= text.len() {
-        value_line(text, own, e + 3)
+    let own = name_index(text.bytes, at, e)?;
+    if e + 3 <= text.bytes.len() {
+        Some(value_line(text, own, e + 3))
     } else {
-        Line::Nothing
+        None
     }
 }
 
 // A line that writes a cell, whose place stands at byte x.
-fn write_line(text: &[u8], field: bool, x: usize) -> Line
-    requires small { length text.now < 2 ^ 31 }
-    ensures { WriteScan text.now field x result }
+fn write_line(text: Text, field: bool, x: usize) -> Option<Line>
+    ensures { WriteScan text.entry.bytes.now field x result }
 {
-    if x > text.len() {
-        return Line::Nothing;
+    if x > text.bytes.len() {
+        return None;
     }
-    let end = expr_end(text, x);
-    Line::Write {
+    let end = expr_end(text.bytes, x);
+    Some(Line::Write {
         field,
         place: x as u32,
         value: (end + 3) as u32,
-    }
+    })
 }
 
-// The line that begins at byte `at`.
-pub fn scan_line(text: &[u8], at: usize) -> Line
-    requires small { length text.now < 2 ^ 31 }
-    requires within { at ≤ length text.now }
-    ensures { Scan text.now at result }
+// The line that begins at byte `at`; None at the end of the text.
+pub fn scan_line(text: Text, at: usize) -> Option<Line>
+    requires { at ≤ length text.bytes.now }
+    ensures { Scan text.entry.bytes.now at result }
 {
-    let end = word_end(text, at);
-    match keyword_of(&text[at..end]) {
+    let end = word_end(text.bytes, at);
+    match keyword_of(&text.bytes[at..end]) {
         None => named_line(text, at, end),
         Some(Keyword::Cell) => write_line(text, false, end + 1),
         Some(Keyword::Field) => write_line(text, true, end + 1),
-        Some(Keyword::Barrier) => Line::Wait,
-        Some(Keyword::If) => Line::Test {
+        Some(Keyword::Barrier) => Some(Line::Wait),
+        Some(Keyword::If) => Some(Line::Test {
             expr: (end + 1) as u32,
-        },
-        Some(Keyword::While) => Line::Loop {
+        }),
+        Some(Keyword::While) => Some(Line::Loop {
             expr: (end + 1) as u32,
-        },
-        Some(Keyword::Else) => Line::Otherwise,
-        Some(Keyword::End) => Line::Close,
-        Some(Keyword::Own) => Line::Heading,
-        Some(Keyword::Cells) => Line::Heading,
-        Some(Keyword::Lane) => Line::Nothing,
-        Some(Keyword::Group) => Line::Nothing,
-        Some(Keyword::Lanes) => Line::Nothing,
+        }),
+        Some(Keyword::Else) => Some(Line::Otherwise),
+        Some(Keyword::End) => Some(Line::Close),
+        Some(Keyword::Own | Keyword::Cells) => Some(Line::Heading),
+        Some(Keyword::Lane | Keyword::Group | Keyword::Lanes) => None,
     }
 }

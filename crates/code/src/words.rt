@@ -1,81 +1,86 @@
 // Steps in lent words, 16 words for each.
-ghost use Rattle.std.specs.Prelude.{◌≡◌, ℕ, ◌+◌, ◌*◌, ◌/◌, ◌<◌, ◌≤◌, Bool, length, slice_index};
-ghost use Rattle.code.specs.Words.{step_of, step_at, text_line_spec, Wrote};
+ghost use Rattle.std.specs.Prelude.{◌≡◌, ℕ, ◌+◌, ◌*◌, ◌/◌, ◌<◌, ◌≤◌, Bool, length, MatchOption, slice_index};
+ghost use Rattle.code.specs.Words.{step_of, step_at, text_line_spec, EntryAt, Wrote};
 
 use super::step::Step;
 
 // The words of one entry.
 pub const ENTRY: usize = 16;
 
-// The step at entry i of the first `lines`; behind them, and where the words end, is the end.
+// The words of entry i, if the words hold it.
+fn entry_of(steps: &[u32], i: usize) -> Option<&[u32; ENTRY]>
+    ensures { MatchOption result (length steps.now / 16 ≤ i) (λ e. (i < length steps.now / 16) × EntryAt steps.now i e.now) }
+{
+    let (entries, _) = steps.as_chunks::<ENTRY>();
+    entries.get(i)
+}
+
+// The step at entry i of the first `lines`; behind them, and where the words end, is the end. Steps are told apart by the
+// first word, as they lie in lent words.
+#[tactic(auto, using(std::proofs::lemmas::Bool::Decides::nat_tests), unfolding(crate::specs::Words::step_at))]
 pub fn decode(steps: &[u32], lines: usize, i: usize) -> Step
     ensures { result ≡ step_at steps.now lines i }
 {
-    if i >= lines || i >= steps.len() / 16 {
+    if i >= lines {
         return Step::End;
     }
-    let a = steps[i * 16 + 1];
-    let b = steps[i * 16 + 2];
-    let c = steps[i * 16 + 3];
-    let d = steps[i * 16 + 4];
-    match steps[i * 16] {
-        1 => Step::Put {
-            own: a,
-            expr: b,
-            next: c,
-        },
-        2 => Step::Read {
+    let Some(entry) = entry_of(steps, i) else {
+        return Step::End;
+    };
+    match *entry {
+        [1, own, expr, next, ..] => Step::Put { own, expr, next },
+        [2, own, expr, next, ..] => Step::Read {
             field: false,
-            own: a,
-            expr: b,
-            next: c,
+            own,
+            expr,
+            next,
         },
-        3 => Step::Read {
+        [3, own, expr, next, ..] => Step::Read {
             field: true,
-            own: a,
-            expr: b,
-            next: c,
+            own,
+            expr,
+            next,
         },
-        4 => Step::Write {
+        [4, place, value, next, ..] => Step::Write {
             field: false,
-            place: a,
-            value: b,
-            next: c,
+            place,
+            value,
+            next,
         },
-        5 => Step::Write {
+        [5, place, value, next, ..] => Step::Write {
             field: true,
-            place: a,
-            value: b,
-            next: c,
+            place,
+            value,
+            next,
         },
-        6 => Step::Branch {
-            expr: a,
-            yes: b,
-            no: c,
-            join: d,
+        [6, expr, yes, no, join, ..] => Step::Branch {
+            expr,
+            yes,
+            no,
+            join,
             looped: false,
         },
-        7 => Step::Branch {
-            expr: a,
-            yes: b,
-            no: c,
-            join: d,
+        [7, expr, yes, no, join, ..] => Step::Branch {
+            expr,
+            yes,
+            no,
+            join,
             looped: true,
         },
-        8 => Step::Jump { to: a },
-        9 => Step::Barrier { next: a },
+        [8, to, ..] => Step::Jump { to },
+        [9, next, ..] => Step::Barrier { next },
         _ => Step::End,
     }
 }
 
 // The line of the text, from 1, that entry i comes from; 0 where there is no entry.
+#[tactic(auto, unfolding(crate::specs::Words::text_line_spec))]
 pub fn text_line_of(steps: &[u32], i: usize) -> u32
     ensures { result ≡ text_line_spec steps.now i }
 {
-    if i < steps.len() / 16 {
-        steps[i * 16 + 15]
-    } else {
-        0
+    match entry_of(steps, i) {
+        Some(entry) => entry[15],
+        None => 0,
     }
 }
 
@@ -115,14 +120,10 @@ pub fn write_entry(steps: &mut [u32], i: usize, step: Step, text_line: u32)
     ensures there { i < length steps.old / 16 → Wrote steps.old steps.new i step text_line }
     ensures missing { length steps.old / 16 ≤ i → steps.new ≡ steps.old }
 {
-    if i >= steps.len() / 16 {
+    if i >= steps.len() / ENTRY {
         return;
     }
-    let w = words_of(step);
-    steps[i * 16] = w[0];
-    steps[i * 16 + 1] = w[1];
-    steps[i * 16 + 2] = w[2];
-    steps[i * 16 + 3] = w[3];
-    steps[i * 16 + 4] = w[4];
-    steps[i * 16 + 15] = text_line;
+    let at = i * ENTRY;
+    steps[at..at + 5].copy_from_slice(&words_of(step));
+    steps[at + 15] = text_line;
 }

@@ -1,26 +1,28 @@
-use Rattle.std.proofs.Common.{◌≡◌, suc, ◌-◌, ◌≤◌, true, false, sym, arith, rules}
+use Rattle.std.proofs.Common.{◌≡◌, suc, ◌-◌, ◌≤◌, true, false, Some, None, sym, refl, ap, ◌∙◌, arith, rules}
+use Rattle.code.specs.declared.scan.Line.TheVariants.{Otherwise}
 use Rattle.code.proofs.Inside.{kept-wider, kept-both, kept-none, wrote_kept}
 use Rattle.code.proofs.Makes.{given_first, first_room, given_else, last_room, branch_part}
-use Rattle.code.proofs.Parts.{option-weaker, branch-deep, part_none, given-rest, part-more, stops-done, goes-room, plain-part, is_branch, flat-rest, no_else, given-second, second_none, second-some}
+use Rattle.code.proofs.Heads.{some-other, none-other}
+use Rattle.code.proofs.Parts.{option-weaker, branch-deep, part_none, given-rest, part-more, stops-done, goes-room, plain-part, is_branch, flat-rest, else-missing, given-second, second_none, second-some}
 use Rattle.code.proofs.compile.+compile_branch_compile_line_compile_lines_else_lines.Goals as goal
 
 pub compile_branch-returns-then-depth-eq0 : goal.compile_branch-returns-then-depth-eq0
-compile_branch-returns-then-depth-eq0 t c = λ ns b z g br. omega (arith, branch-deep ns c.args.text.now c.args.expr c.args.looped b br, g.shallow, c.if-depth-eq0.true)
+compile_branch-returns-then-depth-eq0 t c = λ ns b z g br. omega (arith, branch-deep ns c.args.of.text.bytes.now c.args.expr c.args.looped b br, g.shallow, c.if-depth-eq0.true)
 
 pub compile_branch-returns-in_err-first : goal.compile_branch-returns-in_err-first
 compile_branch-returns-in_err-first t c =
     rw c.from_residual.ensures
     (λ ns b z g br.
     c.in_err-first.ensures ns _ _
-    (given_first ns c.args.text.now g.names c.args.expr c.args.looped b z c.args.p c.after-inside.result (c.args.depth - 1) c.args.depth c.args.room g br c.after-inside.ensures
+    (given_first ns c.args.of.text.bytes.now g.names c.args.expr c.args.looped b z c.args.p c.after-inside.result (c.args.depth - 1) c.args.depth c.args.of.room g br c.after-inside.ensures
     (omega (arith, c.if-depth-eq0.false))))
 
-pub compile_branch-returns-then-first-room : goal.compile_branch-returns-then-first-room
-compile_branch-returns-then-first-room t c = λ ns b z g br.
+pub compile_branch-returns-then-first-of : goal.compile_branch-returns-then-first-of
+compile_branch-returns-then-first-of t c = λ ns b z g br.
     omega (
       arith,
-      c.if-first-room.true,
-      first_room ns c.args.text.now g.names c.args.expr c.args.looped b z c.args.p c.after-inside.result (c.args.depth - 1) c.args.depth c.args.room g br c.after-inside.ensures
+      c.if-first-of.true,
+      first_room ns c.args.of.text.bytes.now g.names c.args.expr c.args.looped b z c.args.p c.after-inside.result (c.args.depth - 1) c.args.depth c.args.of.room g br c.after-inside.ensures
           (omega (arith, c.if-depth-eq0.false)) _ _ c.in_ok-first.first c.in_ok-first.ensures,
     )
 
@@ -29,15 +31,15 @@ compile_branch-returns-in_err-last t c =
     rw c.from_residual-in_err-last.ensures
     (λ ns b z g br.
     c.in_err-last.ensures ns _ _
-    (given_else ns c.args.text.now g.names c.args.expr c.args.looped b z c.args.p c.after-inside.result (c.args.depth - 1) c.args.depth c.args.room g br c.after-inside.ensures
+    (given_else ns c.args.of.text.bytes.now g.names c.args.expr c.args.looped b z c.args.p c.after-inside.result (c.args.depth - 1) c.args.depth c.args.of.room g br c.after-inside.ensures
     (omega (arith, c.if-depth-eq0.false)) _ _ c.in_ok-first.first c.in_ok-first.ensures))
 
-pub compile_branch-returns-then-last-room : goal.compile_branch-returns-then-last-room
-compile_branch-returns-then-last-room t c = λ ns b z g br.
+pub compile_branch-returns-then-last-of : goal.compile_branch-returns-then-last-of
+compile_branch-returns-then-last-of t c = λ ns b z g br.
     omega (
       arith,
-      c.if-last-room.true,
-      last_room ns c.args.text.now g.names c.args.expr c.args.looped b z c.args.p c.after-inside.result (c.args.depth - 1) c.args.depth c.args.room g br c.after-inside.ensures
+      c.if-last-of.true,
+      last_room ns c.args.of.text.bytes.now g.names c.args.expr c.args.looped b z c.args.p c.after-inside.result (c.args.depth - 1) c.args.depth c.args.of.room g br c.after-inside.ensures
           (omega (arith, c.if-depth-eq0.false)) _ _ c.in_ok-first.first c.in_ok-first.ensures _ c.in_ok-last.last c.in_ok-last.ensures,
     )
 
@@ -56,7 +58,7 @@ compile_branch-returns t c =
       moved = record {
         within = c.after.ensures.within;
         up = omega arith;
-        fits = omega (arith, c.if-last-room.false);
+        fits = omega (arith, c.if-last-of.false);
         kept =
             kept-both _ _ _ o c.after.result.entry (kept-wider _ _ c.after-inside.result.entry fe o c.after.result.entry (omega arith) (omega arith) first.moved.kept)
             (kept-both _ _ _ o c.after.result.entry (kept-wider _ _ (suc fe) (suc le) o c.after.result.entry (omega arith) (omega arith) last.kept)
@@ -65,31 +67,31 @@ compile_branch-returns t c =
       line = c.close.ensures.branch_line;
       further = omega arith;
       part = λ ns b z g br.
-          branch_part ns c.args.text.now g.names c.args.expr c.args.looped b z c.args.p c.after-inside.result (c.args.depth - 1) c.args.depth c.args.room g br c.after-inside.ensures
+          branch_part ns c.args.of.text.bytes.now g.names c.args.expr c.args.looped b z c.args.p c.after-inside.result (c.args.depth - 1) c.args.depth c.args.of.room g br c.after-inside.ensures
           (omega (arith, c.if-depth-eq0.false)) _ _ c.in_ok-first.first first _ c.in_ok-last.last last _ c.after.result c.close.ensures c.after.ensures;
     }
 
 pub compile_line-returns-in-Test : goal.compile_line-returns-in-Test
 compile_line-returns-in-Test t c =
     option-weaker c.compile_branch.result _ _ _ _
-    (λ f ns b z g. f ns b z g (is_branch ns c.args.text.now z c.args.depth c.args.room b c.args.p c.args.line false c.in-Test.expr c.requires.scanned c.in-Test.is g))
+    (λ f ns b z g. f ns b z g (is_branch ns c.args.of.text.bytes.now z c.args.depth c.args.of.room b c.args.p c.args.line false c.in-Test.expr c.requires.scanned c.in-Test.is g))
     (λ q m. record {
       moved = m.moved;
       line = m.line;
       further = m.further;
-      part = λ ns b z g. m.part ns b z g (is_branch ns c.args.text.now z c.args.depth c.args.room b c.args.p c.args.line false c.in-Test.expr c.requires.scanned c.in-Test.is g);
+      part = λ ns b z g. m.part ns b z g (is_branch ns c.args.of.text.bytes.now z c.args.depth c.args.of.room b c.args.p c.args.line false c.in-Test.expr c.requires.scanned c.in-Test.is g);
     })
     c.compile_branch.ensures
 
 pub compile_line-returns-in-Loop : goal.compile_line-returns-in-Loop
 compile_line-returns-in-Loop t c =
     option-weaker c.compile_branch-in-Loop.result _ _ _ _
-    (λ f ns b z g. f ns b z g (is_branch ns c.args.text.now z c.args.depth c.args.room b c.args.p c.args.line true c.in-Loop.expr c.requires.scanned c.in-Loop.is g))
+    (λ f ns b z g. f ns b z g (is_branch ns c.args.of.text.bytes.now z c.args.depth c.args.of.room b c.args.p c.args.line true c.in-Loop.expr c.requires.scanned c.in-Loop.is g))
     (λ q m. record {
       moved = m.moved;
       line = m.line;
       further = m.further;
-      part = λ ns b z g. m.part ns b z g (is_branch ns c.args.text.now z c.args.depth c.args.room b c.args.p c.args.line true c.in-Loop.expr c.requires.scanned c.in-Loop.is g);
+      part = λ ns b z g. m.part ns b z g (is_branch ns c.args.of.text.bytes.now z c.args.depth c.args.of.room b c.args.p c.args.line true c.in-Loop.expr c.requires.scanned c.in-Loop.is g);
     })
     c.compile_branch-in-Loop.ensures
 
@@ -107,34 +109,42 @@ compile_line-returns-in_default t c =
       line = wrote.told;
       further = omega arith;
       part = λ ns b z g.
-          plain-part ns c.args.text.now z c.args.depth c.args.room _ _ b c.args.p c.after-next.result c.args.line c.step_of.result c.args.p.line c.requires.scanned c.requires.goes
+          plain-part ns c.args.of.text.bytes.now z c.args.depth c.args.of.room _ _ b c.args.p c.after-next.result c.args.line c.step_of.result c.args.p.line c.requires.scanned c.requires.goes
           (flat-rest c.args.line c.in_default.not-Test c.in_default.not-Loop) c.after-next.ensures c.step_of.ensures wrote g;
     }
 
 pub compile_lines-loop-line-init : goal.compile_lines-loop-line-init
 compile_lines-loop-line-init t c = (
   record { within = c.requires.within; up = omega arith; fits = c.requires.entry; kept = kept-none c.args.steps.now c.args.from.entry c.args.from.entry },
-  λ ns b z g. part_none ns c.args.text.now z c.args.depth c.args.room c.args.steps.now b c.args.from g,
+  λ ns b z g. part_none ns c.args.of.text.bytes.now z c.args.depth c.args.of.room c.args.steps.now b c.args.from g,
 )
 
-pub compile_lines-scan_line-line-requires : goal.compile_lines-scan_line-line-requires
-compile_lines-scan_line-line-requires t c = record { small = c.requires.small; within = c.loop-line.invariant.0.within }
+pub compile_lines-scan_line-requires : goal.compile_lines-scan_line-requires
+compile_lines-scan_line-requires t c = c.loop-line.invariant.0.within
+
+pub compile_lines-returns-in_default : goal.compile_lines-returns-in_default
+compile_lines-returns-in_default t c =
+    record {
+      moved = c.loop-line.invariant.0;
+      done = λ ns b z g.
+          stops-done ns c.args.of.text.bytes.now z c.args.depth c.args.of.room c.loop-line.steps b c.args.from c.loop-line.p None c.in_default.ensures refl g (c.loop-line.invariant.1 ns b z g);
+    }
 
 pub compile_lines-returns-then-stops : goal.compile_lines-returns-then-stops
 compile_lines-returns-then-stops t c =
     record {
       moved = c.loop-line.invariant.0;
       done = λ ns b z g.
-          stops-done ns c.args.text.now z c.args.depth c.args.room c.loop-line.steps b c.args.from c.loop-line.p c.scan_line-line.result c.scan_line-line.ensures
+          stops-done ns c.args.of.text.bytes.now z c.args.depth c.args.of.room c.loop-line.steps b c.args.from c.loop-line.p (Some c.in-Some.line) c.in-Some.ensures
           (sym c.if-stops.ensures) g (c.loop-line.invariant.1 ns b z g);
     }
 
-pub compile_lines-returns-then-p-room : goal.compile_lines-returns-then-p-room
-compile_lines-returns-then-p-room t c = λ ns b z g.
+pub compile_lines-returns-then-p-of : goal.compile_lines-returns-then-p-of
+compile_lines-returns-then-p-of t c = λ ns b z g.
     omega (
       arith,
-      c.if-p-room.true,
-      goes-room ns c.args.text.now z c.args.depth c.args.room c.loop-line.steps b c.args.from c.loop-line.p c.scan_line-line.result c.scan_line-line.ensures
+      c.if-p-of.true,
+      goes-room ns c.args.of.text.bytes.now z c.args.depth c.args.of.room c.loop-line.steps b c.args.from c.loop-line.p (Some c.in-Some.line) c.in-Some.ensures
           (sym c.if-stops.ensures) g (c.loop-line.invariant.1 ns b z g),
     )
 
@@ -142,20 +152,14 @@ pub compile_lines-compile_line-requires : goal.compile_lines-compile_line-requir
 compile_lines-compile_line-requires t c = (
   search rules,
   (
-    c.requires.small,
+    c.loop-line.invariant.0.within,
     (
-      c.loop-line.invariant.0.within,
+      c.if-p-of.false,
       (
-        c.if-p-room.false,
+        omega (arith, c.requires.room, c.loop-line.auto.steps),
         (
-          c.requires.few,
-          (
-            omega (arith, c.requires.room, c.loop-line.auto.steps),
-            (
-              c.scan_line-line.ensures,
-              sym c.if-stops.ensures,
-            ),
-          ),
+          c.in-Some.ensures,
+          sym c.if-stops.ensures,
         ),
       ),
     ),
@@ -167,7 +171,7 @@ compile_lines-returns-in_err-p t c =
     rw c.from_residual.ensures
     (λ ns b z g.
     c.in_err-p.ensures ns _ _
-    (given-rest ns c.args.text.now z c.args.depth c.args.room c.loop-line.steps b c.args.from c.loop-line.p g (c.loop-line.invariant.1 ns b z g)))
+    (given-rest ns c.args.of.text.bytes.now z c.args.depth c.args.of.room c.loop-line.steps b c.args.from c.loop-line.p g (c.loop-line.invariant.1 ns b z g)))
 
 pub compile_lines-loop-line-preserved : goal.compile_lines-loop-line-preserved
 compile_lines-loop-line-preserved t c =
@@ -186,27 +190,26 @@ compile_lines-loop-line-preserved t c =
       },
       λ ns b z g.
           let one = c.loop-line.invariant.1 ns b z g in
-          part-more ns c.args.text.now z c.args.depth c.args.room c.loop-line.steps c.compile_line.new.steps o b c.loop-line.p c.in_ok-p.p u1 u2 one
-          (n.part ns one.rest z (given-rest ns c.args.text.now z c.args.depth c.args.room c.loop-line.steps b c.args.from c.loop-line.p g one)) n.moved.kept,
+          part-more ns c.args.of.text.bytes.now z c.args.depth c.args.of.room c.loop-line.steps c.compile_line.new.steps o b c.loop-line.p c.in_ok-p.p u1 u2 one
+          (n.part ns one.rest z (given-rest ns c.args.of.text.bytes.now z c.args.depth c.args.of.room c.loop-line.steps b c.args.from c.loop-line.p g one)) n.moved.kept,
     )
 
 pub else_lines-returns-in_default : goal.else_lines-returns-in_default
 else_lines-returns-in_default t c =
-    record {
-      within = c.requires.within;
-      up = omega arith;
-      fits = omega (arith, c.requires.entry);
-      kept = kept-none c.args.steps.now (suc c.args.first.entry) (suc c.args.first.entry);
-      done = λ ns d z g.
-          no_else ns c.args.text.now c.args.depth c.args.room d z c.args.steps.now c.args.first c.scan_line.result c.scan_line.ensures c.in_default.not-Otherwise g;
-    }
+    else-missing c.args.of.text.bytes.now c.args.steps.now c.args.depth c.args.of.room c.args.first c.scan_line.result c.scan_line.ensures
+    (some-other c.scan_line.result c.in_default.field-0 Otherwise c.in_default.is (λ q. search rules)) c.requires.within c.requires.entry
+
+pub else_lines-returns-in_default-2 : goal.else_lines-returns-in_default-2
+else_lines-returns-in_default-2 t c =
+    else-missing c.args.of.text.bytes.now c.args.steps.now c.args.depth c.args.of.room c.args.first c.scan_line.result c.scan_line.ensures (none-other c.scan_line.result Otherwise c.in_default.is) c.requires.within
+    c.requires.entry
 
 pub else_lines-returns-in_err-second : goal.else_lines-returns-in_err-second
 else_lines-returns-in_err-second t c =
     rw c.from_residual.ensures
     (λ ns d z g.
     c.in_err-second.ensures ns _ _
-    (given-second ns c.args.text.now c.args.depth c.args.room d z c.args.first c.after-begin.result c.scan_line.result c.scan_line.ensures c.in-Otherwise.is c.after-begin.ensures g))
+    (given-second ns c.args.of.text.bytes.now c.args.depth c.args.of.room d z c.args.first c.after-begin.result c.scan_line.result c.scan_line.ensures (c.in-Some-Otherwise.is ∙ ap Some c.in-Some-Otherwise.field-0-is) c.after-begin.ensures g))
 
 pub else_lines-returns-then-second-begin : goal.else_lines-returns-then-second-begin
 else_lines-returns-then-second-begin t c =
@@ -220,8 +223,8 @@ else_lines-returns-then-second-begin t c =
       fits = omega (arith, c.requires.entry);
       kept = kept-wider _ _ c.after-begin.result.entry c.in_ok-second.second.entry (suc fe) (suc fe) (omega arith) (omega arith) made.moved.kept;
       done = λ ns d z g.
-          second_none ns c.args.text.now c.args.depth c.args.room d z _ c.args.first c.after-begin.result c.in_ok-second.second c.after-begin.ensures se
-          (made.done ns d _ (given-second ns c.args.text.now c.args.depth c.args.room d z c.args.first c.after-begin.result c.scan_line.result c.scan_line.ensures c.in-Otherwise.is c.after-begin.ensures g));
+          second_none ns c.args.of.text.bytes.now c.args.depth c.args.of.room d z _ c.args.first c.after-begin.result c.in_ok-second.second c.after-begin.ensures se
+          (made.done ns d _ (given-second ns c.args.of.text.bytes.now c.args.depth c.args.of.room d z c.args.first c.after-begin.result c.scan_line.result c.scan_line.ensures (c.in-Some-Otherwise.is ∙ ap Some c.in-Some-Otherwise.field-0-is) c.after-begin.ensures g));
     }
 
 pub else_lines-returns-else-second-begin : goal.else_lines-returns-else-second-begin
@@ -236,6 +239,6 @@ else_lines-returns-else-second-begin t c =
       fits = made.moved.fits;
       kept = kept-wider _ _ c.after-begin.result.entry c.in_ok-second.second.entry (suc fe) (suc c.in_ok-second.second.entry) (omega arith) (omega arith) made.moved.kept;
       done = λ ns d z g.
-          second-some ns c.args.text.now c.args.depth c.args.room d z _ c.args.first c.after-begin.result c.in_ok-second.second c.after-begin.ensures c.if-second-begin.false
-          (made.done ns d _ (given-second ns c.args.text.now c.args.depth c.args.room d z c.args.first c.after-begin.result c.scan_line.result c.scan_line.ensures c.in-Otherwise.is c.after-begin.ensures g));
+          second-some ns c.args.of.text.bytes.now c.args.depth c.args.of.room d z _ c.args.first c.after-begin.result c.in_ok-second.second c.after-begin.ensures c.if-second-begin.false
+          (made.done ns d _ (given-second ns c.args.of.text.bytes.now c.args.depth c.args.of.room d z c.args.first c.after-begin.result c.scan_line.result c.scan_line.ensures (c.in-Some-Otherwise.is ∙ ap Some c.in-Some-Otherwise.field-0-is) c.after-begin.ensures g));
     }

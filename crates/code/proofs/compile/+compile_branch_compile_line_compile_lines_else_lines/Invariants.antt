@@ -17,8 +17,8 @@ decreases-else_lines l = l.depth * 4 + 4
 
 abbrev pub invariant-compile_lines-loop-line : goal.invariant-compile_lines-loop-line
 invariant-compile_lines-loop-line l =
-    Moved l.text l.initial.steps l.steps l.room l.initial.p l.p
-    × ((ns : List (List ℕ)) (b : Body) (z : List ℕ) → Given ns l.text l.initial.p.at b z l.initial.p.entry l.depth l.room → Part ns l.text l.steps z l.initial.p.entry b l.depth l.p)
+    Moved l.of.text.bytes.now l.initial.steps l.steps l.of.room l.initial.p l.p
+    × ((ns : List (List ℕ)) (b : Body) (z : List ℕ) → Given ns l.of.text.bytes.now l.initial.p.at b z l.initial.p.entry l.depth l.of.room → Part ns l.of.text.bytes.now l.steps z l.initial.p.entry b l.depth l.p)
 
 abbrev pub decreases-compile_lines-loop-line : goal.decreases-compile_lines-loop-line
-decreases-compile_lines-loop-line l = l.room - l.p.entry
+decreases-compile_lines-loop-line l = l.of.room - l.p.entry

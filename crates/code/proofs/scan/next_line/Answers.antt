@@ -1,21 +1,17 @@
-use Rattle.std.proofs.Common.{arith}
-use Rattle.code.proofs.Texts.{drop-behind, line-ends, no_line}
+use Rattle.std.proofs.Common.{◌≡◌, ℕ, ◌+◌, length, ap, Some, None, arith}
+use Rattle.std.proofs.lemmas.Slice.{between_to_end}
+use Rattle.code.proofs.Texts.{drop-behind, line-found}
 use Rattle.code.proofs.scan.next_line.Goals as goal
 
-pub returns-then-text-end-eq10 : goal.returns-then-text-end-eq10
-returns-then-text-end-eq10 c =
-    let inv = c.loop-end.invariant in
-    record {
-      within = omega (arith, c.loop-end-test.true);
-      on = λ u z e h.
-          drop-behind c.args.text.now u z c.args.i c.loop-end.end 10 e
-          (line-ends c.args.text.now u z c.args.i c.loop-end.end e h inv.0 c.loop-end-test.true inv.1.1 c.if-text-end-eq10.true);
-    }
+pub returns-in-Some-clause-on : goal.returns-in-Some-clause-on
+returns-in-Some-clause-on c = λ u z e h.
+    let b = between_to_end c.args.text.now c.args.i (length c.args.text.now) (omega arith) in
+    let q : Some c.in-Some.n ≡ Some (length u) = line-found c.args.text.now u z c.args.i (Some c.in-Some.n) (rw b at c.in-Some.ensures) e h in
+    let n : c.in-Some.n ≡ length u = cc in
+    drop-behind c.args.text.now u z c.args.i (c.args.i + c.in-Some.n) 10 e (ap (λ (m : ℕ). c.args.i + m) n)
 
-pub returns : goal.returns
-returns c =
-    let inv = c.loop-end.invariant in
-    record {
-      within = inv.1.0;
-      on = λ u z e h. absurd (no_line c.args.text.now u z c.args.i e (λ k p q. inv.1.1 k p (omega (arith, c.loop-end-test.false))));
-    }
+pub returns-in-None-clause-on : goal.returns-in-None-clause-on
+returns-in-None-clause-on c = λ u z e h.
+    let b = between_to_end c.args.text.now c.args.i (length c.args.text.now) (omega arith) in
+    let q : None ≡ Some (length u) = line-found c.args.text.now u z c.args.i None (rw b at c.in-None.ensures) e h in
+    cc

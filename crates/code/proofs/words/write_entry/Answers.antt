@@ -1,12 +1,12 @@
-use Rattle.std.proofs.Common.{◌/◌, ◌<◌, length, get_or, arith}
+use Rattle.std.proofs.Common.{◌≡◌, length, arith}
+use Rattle.std.proofs.lemmas.Grind.{common_steps}
 use Rattle.code.proofs.Entries.{wrote}
 use Rattle.code.proofs.words.write_entry.Goals as goal
 
 pub returns : goal.returns
 returns c =
-    let w = c.words_of-w.result in
-    let h : c.args.i < length c.args.steps.now / 16 = omega arith in
+    let five : length c.copy_from_slice.new.self ≡ 5 = grind (arith, common_steps) in
     record {
-      there = λ _. wrote c.args.steps.now c.args.i (get_or w 0 0) (get_or w 1 0) (get_or w 2 0) (get_or w 3 0) (get_or w 4 0) c.args.text_line c.args.step h c.words_of-w.ensures;
+      there = λ h. wrote c.args.steps.now c.copy_from_slice.new.self c.args.i _ c.args.text_line c.args.step h (omega arith) five (rw c.copy_from_slice.ensures.after c.words_of.ensures);
       missing = λ g. let z : ⊥ = omega arith in absurd z;
     }

@@ -7,13 +7,14 @@ use Rattle.grammar.specs.declared.keywords.Keyword.TheVariants.{Barrier, Else, E
 use Rattle.grammar.specs.Spelling.{word_byte, each_byte, SpellsExpr, SpellsBody, Named}
 use Rattle.grammar.specs.Names.{PlaceOf}
 use Rattle.grammar.specs.Taken.{depth}
+use Rattle.grammar.proofs.Bytewise.{each_append}
 use Rattle.code.specs.declared.scan.Line.{Line}
 use Rattle.code.specs.declared.scan.Line.TheVariants.{Heading, Put, Read, Write, Wait, Test, Loop, Otherwise, Close}
 use Rattle.code.specs.Lines.{lines_of}
 use Rattle.code.specs.Code.{Codes}
 use Rattle.code.specs.Scan.{in_line, Scan, ScanBy, NamedScan, NamedBy}
 use Rattle.code.specs.Make.{entry_at, Lies, Halts, no_more, at_else, at_end, Names, NextLine, stopping, plain_step, Branches}
-use Rattle.code.proofs.Texts.{each_append, word_at}
+use Rattle.code.proofs.Texts.{word_at}
 use Rattle.code.proofs.Heads.{keyword-scan, empty-word, each_none}
 use Rattle.code.proofs.Tells.{next_is, in-one-line, named-in-line, put-line, read-line, read-line-field, write-line, write-line-field, test-line, loop-line}
 
@@ -73,11 +74,6 @@ module _ (ns : List (List ℕ)) (text : List ℕ) (names : Names ns text) (at : 
   named-line b k e a m u s na hm su sb h =
       next_lies b (a ++ (m ++ u)) s (h ∙ sym (append_assoc a (m ++ u) (10 ∷ (s ++ z)) ∙ ap (λ t. a ++ t) (append_assoc m u (10 ∷ (s ++ z)))))
       (each_append in_line a (m ++ u) (named-in-line ns text names k a na) (each_append in_line m u hm (in-one-line ns text names e u su))) sb
-
-  worded_line : (b : Body) (e : Expr) (m u s : List ℕ) → each_byte in_line m ≡ true → SpellsExpr (Named ns) e u → SpellsBody (Named ns) b s → drop at text ≡ m ++ (u ++ (10 ∷ (s ++ z)))
-      → (n : ℕ) → NextLine text at n → Lies ns text n b z
-  worded_line b e m u s hm su sb h =
-      next_lies b (m ++ u) s (h ∙ sym (append_assoc m u (10 ∷ (s ++ z)))) (each_append in_line m u hm (in-one-line ns text names e u su)) sb
 
   two_line : (b : Body) (e f : Expr) (m u v s : List ℕ) → each_byte in_line m ≡ true → SpellsExpr (Named ns) e u → SpellsExpr (Named ns) f v → SpellsBody (Named ns) b s
       → drop at text ≡ m ++ (u ++ (codes " = " ++ (v ++ (10 ∷ (s ++ z))))) → (n : ℕ) → NextLine text at n → Lies ns text n b z

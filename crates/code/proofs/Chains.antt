@@ -13,7 +13,7 @@ unfolding step_at
 jump-within ws lines i to e =
     elim (cases_Bool (ltb i lines)) [
       | inl p ↦ ltb-true i lines p
-      | inr p ↦ let q : Jump to ≡ End = e ∙ rw p in let z : ◌≡◌ {A = ℕ} 0 1 = cc in omega arith
+      | inr p ↦ let q : Jump to ≡ End = e ∙ rw p in cc
     ]
 
 loop-stays : (s : Step) → is_loop s ≡ true → is_jump s ≡ false

@@ -1,18 +1,16 @@
 -- How far an expression goes in a text, and what it is made of.
-use Rattle.std.proofs.Common.{◌≡◌, ℕ, suc, ◌+◌, ◌<◌, ◌≤◌, true, ◌≢◌, List, [], ◌∷◌, ◌++◌, length, get_or, drop, codes, sym, refl, ap, ◌∙◌, append_assoc, arith}
+use Rattle.std.proofs.Common.{◌≡◌, ℕ, suc, ◌+◌, ◌≤◌, true, ◌≢◌, List, [], ◌∷◌, ◌++◌, length, get_or, drop, codes, sym, refl, ap, ◌∙◌, append_assoc, arith}
 use Rattle.std.proofs.lemmas.List.{length-append, get_or_append_left}
-use Rattle.std.proofs.lemmas.Bool.{and_parts, or_right}
+use Rattle.std.proofs.lemmas.Bool.{and_parts}
 use Rattle.std.proofs.lemmas.Bool.Decides.{nat_tests}
 use Rattle.lanes.specs.Syntax.{Expr, fixed, var, lane, group, lanes, plus, minus, times, over, rest_of, less, same}
-use Rattle.grammar.specs.Spelling.{word_byte, digit, letter, each_byte, IsName, infix_of, SpellsExpr, Named}
+use Rattle.grammar.specs.Spelling.{word_byte, digit, each_byte, IsName, infix_of, SpellsExpr, Named}
 use Rattle.grammar.specs.Stands.{Stands}
 use Rattle.grammar.specs.Words.{WordEnd}
 use Rattle.grammar.proofs.Scanned.{byte_at, word-ends}
+use Rattle.grammar.proofs.Bytewise.{digit-word, each_weaken, named-names}
 use Rattle.code.specs.Scan.{in_line, closing, EndsAt}
-use Rattle.code.proofs.Texts.{closing-plain, closing-open, closing-shut, closing-last, drop-on, first_byte, each_weaken}
-
-pub digit-word : (b : ℕ) → digit b ≡ true → word_byte b ≡ true
-digit-word b h = or_right (letter b) (digit b) h
+use Rattle.code.proofs.Texts.{closing-plain, closing-open, closing-shut, closing-last, drop-on, first_byte}
 
 pub word-in_line : (b : ℕ) → word_byte b ≡ true → in_line b ≡ true
 word-in_line b h = grind (arith, nat_tests)
@@ -117,9 +115,6 @@ module _ (N : ℕ → List ℕ → Type 0) (names : (k : ℕ) (u : List ℕ) →
         | word p n ↦ drop-on text s.spelling s.behind x y s.here (word-ends text x y s.spelling s.behind w s.here p s.apart)
         | bracket p n c ↦ absurd (h (first_byte text _ x s.here ∙ first_of s.spelling s.behind n ∙ p))
       ]
-
-pub named-names : (ns : List (List ℕ)) → ((k : ℕ) → k < length ns → IsName (get_or ns k [])) → (k : ℕ) (u : List ℕ) → Named ns k u → IsName u
-named-names ns h k u n = rw n.1 (h k n.0)
 
 pub bracket-ends : (text : List ℕ) (x y : ℕ) → get_or text x 0 ≡ 40 → y ≡ x + closing 0 (drop x text) → EndsAt text x y
 unfolding EndsAt

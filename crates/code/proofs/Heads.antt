@@ -12,12 +12,13 @@ use Rattle.grammar.specs.Words.{WordEnd}
 use Rattle.grammar.specs.Names.{Distinct, PlaceOf}
 use Rattle.grammar.specs.Runs.{written}
 use Rattle.grammar.proofs.Scanned.{word-ends}
+use Rattle.grammar.proofs.Bytewise.{named-names}
 use Rattle.code.specs.declared.scan.Line.{Line}
 use Rattle.code.specs.declared.scan.Line.TheVariants.{Put}
 use Rattle.code.specs.Scan.{WordIs, Scan, ScanBy, NamedScan, NamedBy, ValueScan, value_line}
 use Rattle.code.specs.Make.{Names}
 use Rattle.code.proofs.Texts.{drop-on, word_at}
-use Rattle.code.proofs.Exprs.{named-names, form, word, bracket, first_of}
+use Rattle.code.proofs.Exprs.{form, word, bracket, first_of}
 
 pub each_none : each_byte word_byte [] ≡ true
 unfolding each_byte

@@ -102,15 +102,7 @@ left-last (while e c a) = while-behind e c a _ (lines_of a) refl ∙ left-last a
 
 pub ended_is : (d : Body) → ended d ≡ true → d ≡ end
 unfolding ended
-ended_is end h = refl
-ended_is (put k e b) h = cc
-ended_is (read_shared k e b) h = cc
-ended_is (write_shared e f b) h = cc
-ended_is (read_all k e b) h = cc
-ended_is (write_all e f b) h = cc
-ended_is (barrier b) h = cc
-ended_is (when e c d b) h = cc
-ended_is (while e c b) h = cc
+ended_is d h = grind arith
 
 pub no_lines : (d : Body) → d ≡ end → lines_of d ≡ 0
 unfolding lines_of
@@ -122,15 +114,7 @@ else-room d = elim (cases_Bool (ended d)) [ inl q ↦ omega (arith, no_lines d (
 -- A body without entries is empty.
 pub lines_none : (d : Body) → lines_of d ≡ 0 → ended d ≡ true
 unfolding lines_of ended
-lines_none end h = refl
-lines_none (put k e b) h = absurd (omega arith)
-lines_none (read_shared k e b) h = absurd (omega arith)
-lines_none (write_shared e f b) h = absurd (omega arith)
-lines_none (read_all k e b) h = absurd (omega arith)
-lines_none (write_all e f b) h = absurd (omega arith)
-lines_none (barrier b) h = absurd (omega arith)
-lines_none (when e c d b) h = absurd (omega arith)
-lines_none (while e c b) h = absurd (omega arith)
+lines_none d h = grind arith
 
 pub no_second : (d : Body) → d ≡ end → else_lines_spec d ≡ 0
 unfolding ended

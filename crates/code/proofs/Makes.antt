@@ -5,6 +5,7 @@ use Rattle.lanes.specs.Syntax.{Body, Expr, ended, end, when, while}
 use Rattle.grammar.specs.Spelling.{each_byte, SpellsExpr, SpellsBody, Named}
 use Rattle.grammar.specs.Stands.{Stands}
 use Rattle.grammar.specs.Taken.{depth}
+use Rattle.grammar.proofs.Bytewise.{each_append}
 use Rattle.code.specs.declared.step.Step.TheVariants.{Branch as SBranch, Jump as SJump}
 use Rattle.code.specs.declared.compile.Place.{Place}
 use Rattle.code.specs.Lines.{lines_of, else_lines_spec}
@@ -12,7 +13,6 @@ use Rattle.code.specs.Code.{Codes}
 use Rattle.code.specs.Scan.{in_line}
 use Rattle.code.specs.Make.{entry_at, SameEntries, Lies, Halts, at_else, at_end, Names, NextLine, After, Given, Done, Part, LinesMade, Branches, ElseLies, none, some, ElseGiven, ElseMade, Closed}
 use Rattle.code.proofs.Left.{else-none, else-some, ended_is, no_lines, when-lines}
-use Rattle.code.proofs.Texts.{each_append}
 use Rattle.code.proofs.Tells.{next_is, in-one-line}
 use Rattle.code.proofs.Inside.{kept_entry, codes_same}
 

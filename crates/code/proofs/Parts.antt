@@ -13,16 +13,12 @@ use Rattle.code.specs.Lines.{lines_of, else_lines_spec}
 use Rattle.code.specs.Words.{Wrote}
 use Rattle.code.specs.Code.{Codes}
 use Rattle.code.specs.Scan.{Scan}
-use Rattle.code.specs.Make.{entry_at, Kept, SameEntries, at_end, After, Given, Done, Part, Branches, none, some, ElseGiven, ElseMade, stopping, plain_step}
+use Rattle.code.specs.Make.{entry_at, Kept, SameEntries, at_end, After, Given, Done, Part, LineMade, Branches, BranchMade, none, some, ElseGiven, ElseMade, stopping, plain_step}
 use Rattle.code.proofs.Left.{else-none, else-some, else-room, ended_is, lines_none, no_lines}
 use Rattle.code.proofs.Tells.{next_is}
 use Rattle.code.proofs.Heads.{keyword-scan}
 use Rattle.code.proofs.Bodies.{told, halted, plain, branch, branching, branch_line}
 use Rattle.code.proofs.Inside.{kept_entry, kept-none}
-
-pub option-weaker : {A : Type 0} (o : Option A) (P R : Type 0) (Q S : A → Type 0) → (P → R) → ((x : A) → Q x → S x) → MatchOption o P Q → MatchOption o R S
-option-weaker None P R Q S f g c = f c
-option-weaker (Some x) P R Q S f g c = g x c
 
 pub not-stopping : (looped : Bool) (x : ℕ) (r : Option Line) → r ≡ Some (branch_line looped x) → stopping r ≡ true → ⊥
 not-stopping false x r q h = true≢false (sym h ∙ ap stopping q)
@@ -145,7 +141,7 @@ module _ (ns : List (List ℕ)) (text z : List ℕ) (fuel room : ℕ) where
       ]
 
   -- A line that is a branch.
-  pub is_branch : (b : Body) (p : Place) (r : Line) (looped : Bool) (x : ℕ) → Scan text p.at (Some r) → r ≡ branch_line looped x → Given ns text p.at b z p.entry fuel room → Branches ns text x looped b
+  is_branch : (b : Body) (p : Place) (r : Line) (looped : Bool) (x : ℕ) → Scan text p.at (Some r) → r ≡ branch_line looped x → Given ns text p.at b z p.entry fuel room → Branches ns text x looped b
   is_branch b p r looped x scan q g =
       elim (told ns text g.names p.at (Some r) scan z b g.lies g.halts) [
         | halted e y x₀ ↦ absurd (not-stopping looped x (Some r) (ap Some q) y)
@@ -217,3 +213,11 @@ else-missing text words fuel room q r scan h w f =
       kept = kept-none words (suc q.entry) (suc q.entry);
       done = λ ns d z g. no_else ns text fuel room d z words q r scan h g;
     }
+
+-- A line that is a branch, made as a branch.
+pub branch-made : (text words after : List ℕ) (fuel room : ℕ) (p : Place) (r : Line) (looped : Bool) (x : ℕ) → Scan text p.at (Some r) → r ≡ branch_line looped x → (o : Option Place)
+    → MatchOption o ((ns : List (List ℕ)) (b : Body) (z : List ℕ) → Given ns text p.at b z p.entry fuel room → Branches ns text x looped b → ⊥) (λ q. BranchMade text words after fuel room x looped p q)
+    → MatchOption o ((ns : List (List ℕ)) (b : Body) (z : List ℕ) → Given ns text p.at b z p.entry fuel room → ⊥) (λ q. LineMade text words after fuel room p q)
+branch-made text words after fuel room p r looped x scan e None f = λ ns b z g. f ns b z g (is_branch ns text z fuel room b p r looped x scan e g)
+branch-made text words after fuel room p r looped x scan e (Some q) m =
+    record { moved = m.moved; line = m.line; further = m.further; part = λ ns b z g. m.part ns b z g (is_branch ns text z fuel room b p r looped x scan e g) }

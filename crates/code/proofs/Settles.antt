@@ -19,19 +19,9 @@ jump-or-not (Jump i) = inl (i, refl)
 jump-or-not (Barrier i) = inr refl
 jump-or-not End = inr refl
 
-target : Step → ℕ
-target (Put k x i) = 0
-target (Read f k x i) = 0
-target (Write f x y i) = 0
-target (Branch x y n j f) = 0
-target (Jump i) = i
-target (Barrier i) = 0
-target End = 0
-
 -- A jump goes to one entry.
 pub one-target : (s : Step) (t u : ℕ) → s ≡ Jump t → s ≡ Jump u → t ≡ u
-unfolding target
-one-target s t u p q = ap target (sym p ∙ q)
+one-target s t u p q = let e : Jump t ≡ Jump u = sym p ∙ q in cc
 
 module _ (code : ℕ → Step) where
   pub not-both : {A : Type 0} (i t : ℕ) → code i ≡ Jump t → is_jump (code i) ≡ false → A

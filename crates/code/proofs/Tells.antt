@@ -6,12 +6,13 @@ use Rattle.grammar.specs.declared.keywords.Keyword.{Keyword}
 use Rattle.grammar.specs.declared.keywords.Keyword.TheVariants.{Cell, Field, If, While}
 use Rattle.grammar.specs.Spelling.{word_byte, digit, each_byte, IsName, infix_of, SpellsExpr, Named}
 use Rattle.grammar.specs.Stands.{Stands}
+use Rattle.grammar.proofs.Bytewise.{digit-word, each_append, each_weaken, named-names}
 use Rattle.code.specs.declared.scan.Line.{Line}
 use Rattle.code.specs.declared.scan.Line.TheVariants.{Put, Read, Write, Test, Loop}
 use Rattle.code.specs.Scan.{in_line, Scan, WriteScan, EndsAt}
 use Rattle.code.specs.Make.{Names, NextLine}
-use Rattle.code.proofs.Texts.{drop-on, each_append, each_weaken}
-use Rattle.code.proofs.Exprs.{named-names, digit-word, word-in_line}
+use Rattle.code.proofs.Texts.{drop-on}
+use Rattle.code.proofs.Exprs.{word-in_line}
 use Rattle.code.proofs.Heads.{keyword-scan, named-scan, value-keyword, value-expr}
 
 -- An expression stands in one line.

@@ -1,8 +1,8 @@
 -- Parts of a text from a byte on.
-use Rattle.std.proofs.Common.{◌≡◌, ℕ, suc, ◌+◌, ◌-◌, ◌<◌, ◌≤◌, Bool, true, ◌≢◌, List, [], ◌∷◌, ◌++◌, length, get_or, take, drop, position, eqb, Some, Option, not, sym, refl, ap, ◌∙◌, add-zero, arith}
+use Rattle.std.proofs.Common.{◌≡◌, ℕ, suc, ◌+◌, ◌-◌, ◌<◌, ◌≤◌, true, ◌≢◌, List, [], ◌∷◌, ◌++◌, length, get_or, take, drop, position, eqb, Some, Option, not, sym, refl, ap, ◌∙◌, add-zero, arith}
 use Rattle.std.specs.List.{between, prefix_len}
 use Rattle.std.proofs.lemmas.List.{drop_at, drop-drop, take_at, length-append, length-drop, at_drop_more, get_or-drop}
-use Rattle.std.proofs.lemmas.Bool.{and_parts, and_from, eq-eqb, ne_eqb, le-leb, lt-leb, lt-ltb}
+use Rattle.std.proofs.lemmas.Bool.{and_parts, eq-eqb, ne_eqb, le-leb, lt-leb, lt-ltb}
 use Rattle.grammar.specs.Spelling.{word_byte, each_byte}
 use Rattle.grammar.specs.Stands.{Apart}
 use Rattle.grammar.specs.Words.{WordEnd}
@@ -83,14 +83,3 @@ module _ (text : List ℕ) (i d : ℕ) (h : i < length text) where
 -- The byte at i is the first of what stands there.
 pub first_byte : (text t : List ℕ) (i : ℕ) → drop i text ≡ t → get_or text i 0 ≡ get_or t 0 0
 first_byte text t i e = ap (λ m. get_or text m 0) (sym (add-zero i)) ∙ sym (get_or-drop i text 0 0) ∙ ap (λ l. get_or l 0 0) e
-
--- What holds of each byte, of two parts and of the whole.
-pub each_append : (f : ℕ → Bool) (u v : List ℕ) → each_byte f u ≡ true → each_byte f v ≡ true → each_byte f (u ++ v) ≡ true
-unfolding each_byte
-each_append f [] v p q = q
-each_append f (b ∷ u) v p q = and_from (f b) (each_byte f (u ++ v)) (and_parts (f b) (each_byte f u) p).0 (each_append f u v (and_parts (f b) (each_byte f u) p).1 q)
-
-pub each_weaken : (f g : ℕ → Bool) → ((b : ℕ) → f b ≡ true → g b ≡ true) → (u : List ℕ) → each_byte f u ≡ true → each_byte g u ≡ true
-unfolding each_byte
-each_weaken f g h [] p = refl
-each_weaken f g h (b ∷ u) p = and_from (g b) (each_byte g u) (h b (and_parts (f b) (each_byte f u) p).0) (each_weaken f g h u (and_parts (f b) (each_byte f u) p).1)

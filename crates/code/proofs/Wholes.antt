@@ -8,6 +8,7 @@ use Rattle.grammar.specs.declared.keywords.Keyword.TheVariants.{Own, Cells}
 use Rattle.grammar.specs.Spelling.{word_byte, digit, each_byte, IsName, SpellsBody, Named, CellsLine}
 use Rattle.grammar.specs.Stands.{Apart}
 use Rattle.grammar.specs.Taken.{Taken, Distinct, lines_in, lines_within}
+use Rattle.grammar.proofs.Bytewise.{digit-word, each_append, each_weaken, lines-append}
 use Rattle.code.specs.declared.step.Step.TheVariants.{End}
 use Rattle.code.specs.declared.scan.Line.{Line}
 use Rattle.code.specs.declared.scan.Line.TheVariants.{Heading}
@@ -23,8 +24,7 @@ use Rattle.code.proofs.Rights.{code-right}
 use Rattle.code.proofs.Nests.{joins-right}
 use Rattle.code.proofs.Settles.{codes-start}
 use Rattle.code.proofs.Regions.{codes-regions}
-use Rattle.code.proofs.Texts.{each_append, each_weaken}
-use Rattle.code.proofs.Exprs.{digit-word, word-in_line}
+use Rattle.code.proofs.Exprs.{word-in_line}
 use Rattle.code.proofs.Tells.{next_is}
 use Rattle.code.proofs.Heads.{keyword-scan}
 use Rattle.code.proofs.Bodies.{told, halted, plain, branch, heading}
@@ -51,12 +51,6 @@ short-at k (b ∷ bs) h s =
 
 pub short-text : (ns : List (List ℕ)) (p : Program) (text : List ℕ) → Taken ns p text → length text < 2147483648
 short-text ns p text t = omega (arith, short-at 0 text (omega arith) t.short, t.few_lines)
-
--- Lines of two parts.
-lines-append : (u v : List ℕ) → lines_in (u ++ v) ≡ lines_in u + lines_in v
-unfolding lines_in
-lines-append [] v = omega arith
-lines-append (b ∷ u) v = let h = lines-append u v in omega arith
 
 lines-nl : (v : List ℕ) → lines_in (10 ∷ v) ≡ 1 + lines_in v
 unfolding lines_in

@@ -22,6 +22,7 @@ pub struct Place {
 }
 
 // The place of the next line, and of the next entry.
+#[tactic(auto, unfolding(crate::specs::Make::NextLine))]
 fn after(text: &[u8], p: Place) -> Place
     requires within { p.at ≤ length text.now }
     requires few { p.entry < 1024 }

@@ -1,3 +1,4 @@
+pub mod Bytewise
 pub mod Scanned
 pub mod Named
 pub mod Listed

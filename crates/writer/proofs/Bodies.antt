@@ -6,7 +6,8 @@ use Rattle.std.proofs.lemmas.Bool.Decides.{nat_tests}
 use Rattle.lanes.specs.Syntax.{Expr, fixed, var, lane, group, lanes, plus, minus, times, over, rest_of, less, same, Body, end, put, read_shared, write_shared, read_all, write_all, barrier, when, while}
 use Rattle.grammar.specs.Spelling.{digit, word_byte, each_byte, same_bytes, IsName, infix_of, SpellsExpr, SpellsBody}
 use Rattle.grammar.specs.Stands.{Apart}
-use Rattle.writer.proofs.Parses.{front, back, front-run, back-run, each-weaker, digit-word, height, name-unlike, parsed, read_back}
+use Rattle.grammar.proofs.Bytewise.{digit-word, each_weaken}
+use Rattle.writer.proofs.Parses.{front, back, front-run, back-run, height, name-unlike, parsed, read_back}
 
 -- a block of lines ends here: the text ends, or an else or an end comes
 abbrev pub stops : List ℕ → Bool
@@ -96,7 +97,7 @@ module _ (find : List ℕ → ℕ) (N : ℕ → List ℕ → Type 0) (is_name : 
   lead_of : (e : Expr) (u z : List ℕ) → SpellsExpr N e u → Apart z → Lead (u ++ z)
   unfolding SpellsExpr same_bytes
   lead_of (fixed a) u z s h =
-      let r = front-run word_byte u z (each-weaker digit word_byte digit-word u s.bytes) h in
+      let r = front-run word_byte u z (each_weaken digit word_byte digit-word u s.bytes) h in
       let d = digit-unlike u s.some s.bytes in record { no_cell = rw r d.0; no_field = rw r d.1 }
   lead_of (var k) u z s h =
       let r = front-run word_byte u z (is_name k u s).bytes h in

@@ -6,8 +6,9 @@ use Rattle.std.proofs.lemmas.Bool.{and_parts, and_from, eqb-true, eq-eqb, cases_
 use Rattle.lanes.specs.Syntax.{Program, Body, end, put, read_shared, write_shared, read_all, write_all, barrier, when, while}
 use Rattle.grammar.specs.Spelling.{digit, word_byte, same_bytes, IsName, decimal, SpellsBody, OwnLine, CellsLine, Spelled, Named}
 use Rattle.grammar.specs.Taken.{Distinct}
+use Rattle.grammar.proofs.Bytewise.{digit-word, each_weaken, named-names}
 use Rattle.writer.specs.Once.{OneProgram}
-use Rattle.writer.proofs.Parses.{front, back, front-run, back-run, each-weaker, digit-word, name-unlike}
+use Rattle.writer.proofs.Parses.{front, back, front-run, back-run, name-unlike}
 use Rattle.writer.proofs.Bodies.{body_of, body_back, body_height}
 
 pub same_refl : (u : List ℕ) → same_bytes u u ≡ true
@@ -98,7 +99,7 @@ cells-back : (s : ℕ) (h x : List ℕ) → CellsLine s h → BodyLead x → cel
 unfolding cells_of same_bytes
 cells-back s h x (inl p) l = rw (p.1, l.no_cells, p.0)
 cells-back s h x (inr (u, i, q)) l =
-    let w = each-weaker digit word_byte digit-word u i.bytes in
+    let w = each_weaken digit word_byte digit-word u i.bytes in
     rw (q, append_assoc u (10 ∷ []) x, front-run word_byte u (10 ∷ x) w refl, back-run word_byte u (10 ∷ x) w refl, i.value)
 
 no-own_cells : (s : ℕ) (h x : List ℕ) → CellsLine s h → BodyLead x → same_bytes (codes "own") (front word_byte (h ++ x)) ≡ false
@@ -113,12 +114,9 @@ own_back [] h x n (inr p) i m l = absurd (p.0 refl)
 own_back (u ∷ ns) h x n (inr p) i m l =
     rw (p.1, append_assoc (flat_map (λ u. 32 ∷ u) (u ∷ ns)) (10 ∷ []) x) (names-back (u ∷ ns) x n i m)
 
-named-is : (ns : List (List ℕ)) → Names ns → (k : ℕ) (u : List ℕ) → Named ns k u → IsName u
-named-is ns i k u (h, q) = rw q (i k h)
-
 module _ (ns : List (List ℕ)) (p : Program) (text : List ℕ) (s : Spelled (Named ns) ns p text) where
   lead : BodyLead s.body_part
-  lead = body_lead (Named ns) (named-is ns s.names) p.body s.body_part s.body
+  lead = body_lead (Named ns) (named-names ns s.names) p.body s.body_part s.body
 
   own_read : (n : ℕ) → length ns < n → own_of n text ≡ (ns, s.cells_part ++ s.body_part)
   own_read n h = rw s.whole (own_back ns s.own_part (s.cells_part ++ s.body_part) n s.own_line s.names h (no-own_cells p.shared s.cells_part s.body_part s.cells_line lead))
@@ -140,7 +138,7 @@ one_same ns p q text d s t =
     let cells : (p.shared, s.body_part) ≡ (q.shared, t.body_part) = sym (cells_read ns p text s) ∙ (ap cells_of rest ∙ cells_read ns q text t) in
     let bodies : s.body_part ≡ t.body_part = ap (λ (x : ℕ × List ℕ). x.1) cells in
     let n : ℕ = body_height p.body + body_height q.body in
-    let i = named-is ns s.names in
+    let i = named-names ns s.names in
     let f = place_found ns d in
     let go : List ℕ → Body × List ℕ = body_of (place_in ns) (Named ns) i f n in
     let a = body_back (place_in ns) (Named ns) i f p.body s.body_part [] n s.body refl (omega arith) in

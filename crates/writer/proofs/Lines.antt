@@ -9,11 +9,11 @@ use Rattle.std.proofs.lemmas.Bool.Decides.{nat_tests}
 use Rattle.lanes.specs.Syntax.{Expr, fixed, var, lane, group, lanes, plus, minus, times, over, rest_of, less, same, Body, end, put, read_shared, write_shared, read_all, write_all, barrier, when, while, Program, ended}
 use Rattle.lanes.specs.Told.{ExprFits, BodyFits}
 use Rattle.grammar.specs.Spelling.{digit, word_byte, each_byte, infix_of, IsName, IsNumber, SpellsExpr, SpellsBody, OwnLine, CellsLine, Spelled, Named}
+use Rattle.grammar.proofs.Bytewise.{each_append, each_weaken}
 use Rattle.writer.specs.Written.{written_expr, written_body, written, else_lines_spec, own_line, cells_line_spec, NoLonger, EveryProgram, Anew, names_in_turn}
-use Rattle.writer.proofs.Parses.{each-weaker}
 use Rattle.writer.proofs.Spelt.{own, number-spelt, spelt}
 use Rattle.writer.proofs.Turn.{length-turn, turn-names, turn-distinct}
-use Rattle.writer.proofs.Shrinks.{plain, each_append, Shrinks, shrinks-none, shrinks-both, shrinks-line, shrinks-away}
+use Rattle.writer.proofs.Shrinks.{plain, Shrinks, shrinks-none, shrinks-both, shrinks-line, shrinks-away}
 
 digit-plain : (b : ℕ) → digit b ≡ true → plain b ≡ true
 digit-plain b e = grind (arith, nat_tests)
@@ -45,14 +45,14 @@ shorter-infix t u v x y b o p q e =
 
 shorter-number : (a : ℕ) (u : List ℕ) → a < 4294967296 → IsNumber a u → Shorter u (digits_of a)
 shorter-number a u h i = record {
-  flat = each-weaker digit plain digit-plain u i.bytes;
-  flat_too = each-weaker digit plain digit-plain (digits_of a) (number-spelt a (omega arith)).bytes;
+  flat = each_weaken digit plain digit-plain u i.bytes;
+  flat_too = each_weaken digit plain digit-plain (digits_of a) (number-spelt a (omega arith)).bytes;
   no_longer = length-decimal-le (length u) a i.some (let q = digits_value_short own u (length u) i.bytes (omega arith) in rw i.value at q) (omega arith);
 }
 
 module _ (ns : List (List ℕ)) (names : (k : ℕ) → k < length ns → IsName (get_or ns k [])) where
   shorter-name : (k : ℕ) (u : List ℕ) → Named ns k u → Shorter u (get_or ns k [])
-  shorter-name k u (h, q) = rw q (shorter-same (get_or ns k []) (each-weaker word_byte plain word-plain (get_or ns k []) (names k h).bytes))
+  shorter-name k u (h, q) = rw q (shorter-same (get_or ns k []) (each_weaken word_byte plain word-plain (get_or ns k []) (names k h).bytes))
 
   shorter-expr : (e : Expr) (u : List ℕ) → ExprFits (length ns) e → SpellsExpr (Named ns) e u → Shorter u (written_expr ns e)
   unfolding ExprFits SpellsExpr written_expr each_byte
@@ -129,7 +129,7 @@ module _ (ns : List (List ℕ)) (names : (k : ℕ) → k < length ns → IsName 
   unfolding each_byte
   flat-names [] i = refl
   flat-names (u ∷ ms) i =
-      each_append plain (32 ∷ u) (flat_map (λ v. 32 ∷ v) ms) (each-weaker word_byte plain word-plain u (i 0 (suc-le-suc zero-le)).bytes) (flat-names ms (λ k h. i (suc k) (suc-le-suc h)))
+      each_append plain (32 ∷ u) (flat_map (λ v. 32 ∷ v) ms) (each_weaken word_byte plain word-plain u (i 0 (suc-le-suc zero-le)).bytes) (flat-names ms (λ k h. i (suc k) (suc-le-suc h)))
 
   shrink-names : (ms : List (List ℕ)) → ((k : ℕ) → k < length ms → IsName (get_or ms k [])) → ms ≢ [] → Shrinks (codes "own" ++ (flat_map (λ u. 32 ∷ u) ms ++ (10 ∷ []))) (own_line ms)
   unfolding each_byte

@@ -6,6 +6,7 @@ use Rattle.std.proofs.lemmas.Bool.Decides.{nat_tests}
 use Rattle.lanes.specs.Syntax.{Expr, fixed, var, lane, group, lanes, plus, minus, times, over, rest_of, less, same}
 use Rattle.grammar.specs.Spelling.{letter, digit, word_byte, each_byte, same_bytes, one_of, keywords, IsName, decimal, IsNumber, infix_of, SpellsExpr}
 use Rattle.grammar.specs.Stands.{Apart}
+use Rattle.grammar.proofs.Bytewise.{digit-word, each_weaken}
 
 -- the longest front of bytes that have f, and what is behind it
 abbrev pub front : (ℕ → Bool) → List ℕ → List ℕ
@@ -33,14 +34,6 @@ pub back-run : (f : ℕ → Bool) (u z : List ℕ) → each_byte f u ≡ true �
 unfolding each_byte
 back-run f [] z e h = back_none f z h
 back-run f (b ∷ u) z e h = let p = and_parts (f b) (each_byte f u) e in rw p.0 (back-run f u z p.1 h)
-
-pub each-weaker : (f g : ℕ → Bool) → ((b : ℕ) → f b ≡ true → g b ≡ true) → (u : List ℕ) → each_byte f u ≡ true → each_byte g u ≡ true
-unfolding each_byte
-each-weaker f g h [] e = refl
-each-weaker f g h (b ∷ u) e = let p = and_parts (f b) (each_byte f u) e in rw (h b p.0) (each-weaker f g h u p.1)
-
-pub digit-word : (b : ℕ) → digit b ≡ true → word_byte b ≡ true
-digit-word b e = grind (arith, nat_tests)
 
 -- an expression by the byte of its operator
 abbrev made : ℕ → Expr → Expr → Expr
@@ -163,7 +156,7 @@ module _ (find : List ℕ → ℕ) where
 
     pub read_back : (e : Expr) (u z : List ℕ) (n : ℕ) → SpellsExpr N e u → Apart z → height e ≤ n → parsed n (u ++ z) ≡ (e, z)
     unfolding SpellsExpr height each_byte leaf_of_spec same_bytes
-    read_back (fixed a) u z n s a' h = word_read (fixed a) u z n (each-weaker digit word_byte digit-word u s.bytes) s.some (leaf-number a u s) a' h
+    read_back (fixed a) u z n s a' h = word_read (fixed a) u z n (each_weaken digit word_byte digit-word u s.bytes) s.some (leaf-number a u s) a' h
     read_back (var k) u z n s a h = word_read (var k) u z n (is_name k u s).bytes (is_name k u s).some (leaf-name k u s) a h
     read_back lane u z n s a h = rw s (word_read lane (codes "lane") z n refl (lit≤ tt) refl a h)
     read_back group u z n s a h = rw s (word_read group (codes "group") z n refl (lit≤ tt) refl a h)

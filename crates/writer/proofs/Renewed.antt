@@ -7,9 +7,11 @@ use Rattle.std.proofs.lemmas.Bool.Decides.{nat_tests}
 use Rattle.lanes.specs.Syntax.{Expr, Body, end, put, read_shared, write_shared, read_all, write_all, barrier, when, while, Program, ended}
 use Rattle.lanes.specs.Told.{ExprFits, BodyFits}
 use Rattle.grammar.specs.Spelling.{digit, word_byte, each_byte, decimal, IsName, SpellsExpr, SpellsBody, OwnLine, CellsLine, Spelled, Named}
+use Rattle.grammar.proofs.Bytewise.{named-names}
 use Rattle.writer.specs.Written.{written_expr, written_body, written, else_lines_spec, own_line, cells_line_spec}
 use Rattle.writer.specs.Copy.{begins, zeros, left_out, copied, copy}
 use Rattle.writer.proofs.Parses.{name-unlike}
+use Rattle.writer.proofs.Spelt.{ended_is}
 use Rattle.writer.proofs.Copies.{left-none}
 use Rattle.writer.proofs.Same.{copied-own, copied-expr, copied-name, copied-number, copied-line, copied-other, begins-word}
 
@@ -23,9 +25,6 @@ name-stays a x i =
     (sym (begins-word (codes "cells") [] a (codes " = " ++ x) 32 refl refl i.bytes refl n.cells)))
 
 module _ (ns : List (List ℕ)) (names : (k : ℕ) → k < length ns → IsName (get_or ns k [])) where
-  named-name : (k : ℕ) (u : List ℕ) → Named ns k u → IsName u
-  named-name k u (h, q) = rw q (names k h)
-
   -- an expression and the end of its line
   expr_line : (e : Expr) (u y : List ℕ) → ExprFits (length ns) e → SpellsExpr (Named ns) e u → copied 0 false (u ++ (10 ∷ y)) ≡ written_expr ns e ++ (10 ∷ copy y)
   expr_line e u y f s = copied-expr ns names e u (10 ∷ y) f s refl ∙ ap (λ (x : List ℕ). written_expr ns e ++ x) (copied-line y)
@@ -38,7 +37,7 @@ module _ (ns : List (List ℕ)) (names : (k : ℕ) → k < length ns → IsName 
 
   name_line : (k : ℕ) (a x : List ℕ) → Named ns k a → copy (a ++ (codes " = " ++ x)) ≡ get_or ns k [] ++ (codes " = " ++ copied 0 false x)
   unfolding copy copied
-  name_line k a x h = rw (name-stays a x (named-name k a h)) (copied-own ns names k a (codes " = " ++ x) h refl)
+  name_line k a x h = rw (name-stays a x (named-names ns names k a h)) (copied-own ns names k a (codes " = " ++ x) h refl)
 
   -- lines that begin with a word of the language
   cell_line : (x : List ℕ) → copy (codes "cell " ++ x) ≡ codes "cell " ++ copied 0 false x
@@ -76,7 +75,7 @@ module _ (ns : List (List ℕ)) (names : (k : ℕ) → k < length ns → IsName 
   -- the lines of a body that isn't empty begin with no end
   name-no-end : (k : ℕ) (a x : List ℕ) → Named ns k a → begins (codes "end" ++ (10 ∷ [])) (a ++ (codes " = " ++ x)) ≡ false
   unfolding each_byte
-  name-no-end k a x h = let i = named-name k a h in begins-word (codes "end") [] a (codes " = " ++ x) 10 refl refl i.bytes refl (name-unlike a i.free).ends
+  name-no-end k a x h = let i = named-names ns names k a h in begins-word (codes "end") [] a (codes " = " ++ x) 10 refl refl i.bytes refl (name-unlike a i.free).ends
 
   no_end : (b : Body) (t x : List ℕ) → ended b ≡ false → SpellsBody (Named ns) b t → begins (codes "end" ++ (10 ∷ [])) (t ++ x) ≡ false
   unfolding SpellsBody ended begins
@@ -107,16 +106,8 @@ module _ (ns : List (List ℕ)) (names : (k : ℕ) → k < length ns → IsName 
   both_behind e g u v y b f h s r q = two_line e g u v y f h s r ∙ ap (λ (x : List ℕ). written_expr ns e ++ (codes " = " ++ (written_expr ns g ++ (10 ∷ x)))) q
 
   nothing : (d : Body) (v : List ℕ) → ended d ≡ true → SpellsBody (Named ns) d v → v ≡ []
-  unfolding ended SpellsBody
-  nothing end v e s = s
-  nothing (put k x b) v e s = absurd (both_ways false refl e)
-  nothing (read_shared k x b) v e s = absurd (both_ways false refl e)
-  nothing (write_shared x y b) v e s = absurd (both_ways false refl e)
-  nothing (read_all k x b) v e s = absurd (both_ways false refl e)
-  nothing (write_all x y b) v e s = absurd (both_ways false refl e)
-  nothing (barrier b) v e s = absurd (both_ways false refl e)
-  nothing (when x c d b) v e s = absurd (both_ways false refl e)
-  nothing (while x c b) v e s = absurd (both_ways false refl e)
+  unfolding SpellsBody
+  nothing d v e s = let t : SpellsBody (Named ns) end v = rw (ended_is d e) at s in t
 
   -- an else, or none, before the end of an if
   else-copied : (d : Body) (y x : List ℕ) → (((d ≡ end) × (y ≡ [])) ⊎ ((v : List ℕ) × SpellsBody (Named ns) d v × (y ≡ codes "else" ++ (10 ∷ v)))) →
@@ -163,9 +154,9 @@ module _ (ns : List (List ℕ)) (names : (k : ℕ) → k < length ns → IsName 
   body-stays : (b : Body) (t : List ℕ) → SpellsBody (Named ns) b t → left_out t ≡ 0
   unfolding SpellsBody left_out begins
   body-stays end t s = rw s
-  body-stays (put k e b) t (a, u, z, i, s, r, q) = rw q (name-stays a (u ++ (10 ∷ z)) (named-name k a i))
-  body-stays (read_shared k e b) t (a, u, z, i, s, r, q) = rw q (name-stays a (codes "cell " ++ (u ++ (10 ∷ z))) (named-name k a i))
-  body-stays (read_all k e b) t (a, u, z, i, s, r, q) = rw q (name-stays a (codes "field " ++ (u ++ (10 ∷ z))) (named-name k a i))
+  body-stays (put k e b) t (a, u, z, i, s, r, q) = rw q (name-stays a (u ++ (10 ∷ z)) (named-names ns names k a i))
+  body-stays (read_shared k e b) t (a, u, z, i, s, r, q) = rw q (name-stays a (codes "cell " ++ (u ++ (10 ∷ z))) (named-names ns names k a i))
+  body-stays (read_all k e b) t (a, u, z, i, s, r, q) = rw q (name-stays a (codes "field " ++ (u ++ (10 ∷ z))) (named-names ns names k a i))
   body-stays (write_shared e f b) t (u, v, z, s, r, g, q) = rw q
   body-stays (write_all e f b) t (u, v, z, s, r, g, q) = rw q
   body-stays (barrier b) t (z, r, q) = rw q

@@ -8,13 +8,10 @@ use Rattle.lanes.specs.Syntax.{Expr, fixed, var, lane, group, lanes, plus, minus
 use Rattle.lanes.specs.Told.{ExprFits}
 use Rattle.grammar.specs.Spelling.{letter, digit, word_byte, each_byte, same_bytes, decimal, infix_of, IsName, SpellsExpr, Named}
 use Rattle.grammar.specs.Stands.{Apart}
+use Rattle.grammar.proofs.Bytewise.{digit-word, apart-digit, word-no-end, digits-word}
 use Rattle.writer.specs.Written.{written_expr}
 use Rattle.writer.specs.Copy.{begins, copied, copy}
-use Rattle.writer.proofs.Parses.{each-weaker, digit-word}
 use Rattle.writer.proofs.Spelt.{own}
-
-word_flat : (b : ℕ) → word_byte b ≡ true → eqb b 10 ≡ false
-word_flat b e = grind (arith, nat_tests)
 
 apart-no-zero : (b : ℕ) → word_byte b ≡ false → eqb b 48 ≡ false
 apart-no-zero b e = grind (arith, nat_tests)
@@ -28,14 +25,11 @@ apart-word c b o w = grind (arith, nat_tests)
 word-apart : (d b : ℕ) → word_byte d ≡ true → word_byte b ≡ false → eqb d b ≡ false
 word-apart d b w o = grind (arith, nat_tests)
 
-letter-word : (b : ℕ) → letter b ≡ true → word_byte b ≡ true
-letter-word b e = grind (arith, nat_tests)
-
 -- the rest of a word
 pub copied-word : (u z : List ℕ) → each_byte word_byte u ≡ true → copied 0 true (u ++ z) ≡ u ++ copied 0 true z
 unfolding copied each_byte
 copied-word [] z e = refl
-copied-word (b ∷ u) z e = let p = and_parts (word_byte b) (each_byte word_byte u) e in rw (word_flat b p.0, p.0) (ap (λ (x : List ℕ). b ∷ x) (copied-word u z p.1))
+copied-word (b ∷ u) z e = let p = and_parts (word_byte b) (each_byte word_byte u) e in rw (word-no-end b p.0, p.0) (ap (λ (x : List ℕ). b ∷ x) (copied-word u z p.1))
 
 pub copied-apart : (z : List ℕ) → Apart z → copied 0 true z ≡ copied 0 false z
 unfolding copied
@@ -45,7 +39,7 @@ copied-apart (b ∷ z) a = rw (apart-no-zero b a)
 -- a word that begins with no zero
 first-copied : (b : ℕ) (u z : List ℕ) → eqb b 48 ≡ false → word_byte b ≡ true → each_byte word_byte u ≡ true → Apart z → copied 0 false (b ∷ (u ++ z)) ≡ b ∷ (u ++ copied 0 false z)
 unfolding copied
-first-copied b u z n w e a = rw (n, word_flat b w, w) (ap (λ (x : List ℕ). b ∷ x) (copied-word u z e ∙ ap (λ (x : List ℕ). u ++ x) (copied-apart z a)))
+first-copied b u z n w e a = rw (n, word-no-end b w, w) (ap (λ (x : List ℕ). b ∷ x) (copied-word u z e ∙ ap (λ (x : List ℕ). u ++ x) (copied-apart z a)))
 
 pub copied-name : (u z : List ℕ) → IsName u → Apart z → copied 0 false (u ++ z) ≡ u ++ copied 0 false z
 unfolding each_byte
@@ -64,17 +58,11 @@ zero_more b u z e d = rw (e, d)
 
 zero-last : (b : ℕ) (z : List ℕ) → word_byte b ≡ true → Apart z → copied 0 false (b ∷ z) ≡ b ∷ copied 0 false z
 unfolding copied
-zero-last b z w a = rw (not_digit (get_or z 0 0) a, and_no (eqb b 48), word_flat b w, w) (ap (λ (x : List ℕ). b ∷ x) (copied-apart z a))
+zero-last b z w a = rw (apart-digit (get_or z 0 0) a, and_no (eqb b 48), word-no-end b w, w) (ap (λ (x : List ℕ). b ∷ x) (copied-apart z a))
   where
     and_no : (x : Bool) → (x && false) ≡ false
     and_no true = refl
     and_no false = refl
-
-    not_digit : (b : ℕ) → word_byte b ≡ false → digit b ≡ false
-    not_digit b e = grind (arith, nat_tests)
-
-number_word : (u : List ℕ) → each_byte digit u ≡ true → each_byte word_byte u ≡ true
-number_word u e = each-weaker digit word_byte digit-word u e
 
 pub copied-number : (u z : List ℕ) → 1 ≤ length u → each_byte digit u ≡ true → decimal 0 u < 18446744073709551616 → Apart z → copied 0 false (u ++ z) ≡ digits_of (decimal 0 u) ++ copied 0 false z
 unfolding each_byte decimal
@@ -92,7 +80,7 @@ copied-number (b ∷ c ∷ u) z s d h a =
           let same : decimal (0 * 10 + (b - 48)) (c ∷ u) ≡ decimal 0 (c ∷ u) = ap (λ (x : ℕ). decimal x (c ∷ u)) none in
           zero_more b (c ∷ u) z e q.0 ∙ (copied-number (c ∷ u) z (omega arith) p.1 (rw same at h) a ∙ ap (λ (x : ℕ). digits_of x ++ copied 0 false z) (sym same))
       | inr e ↦
-          first-copied b (c ∷ u) z e (digit-word b p.0) (number_word (c ∷ u) p.1) a
+          first-copied b (c ∷ u) z e (digit-word b p.0) (digits-word (c ∷ u) p.1) a
           ∙ ap (λ (x : List ℕ). x ++ copied 0 false z) (sym (decimal-digits_value own (b ∷ c ∷ u) d (omega arith) (λ k. absurd (eqb-false b 48 e k)) h))
     ]
 

@@ -4,6 +4,7 @@ use Rattle.std.proofs.lemmas.List.{append_assoc}
 use Rattle.std.proofs.lemmas.Bool.{and_parts, and_from, lt-ltb, ltb-true, not-true}
 use Rattle.grammar.specs.Spelling.{each_byte}
 use Rattle.grammar.specs.Taken.{lines_in, lines_within}
+use Rattle.grammar.proofs.Bytewise.{lines-append}
 
 -- no byte 10
 abbrev pub plain : ℕ → Bool
@@ -11,16 +12,6 @@ plain b = not (eqb b 10)
 
 not-ten : (b : ℕ) → plain b ≡ true → eqb b 10 ≡ false
 not-ten b e = not-true (eqb b 10) e
-
-pub each_append : (f : ℕ → Bool) (u v : List ℕ) → each_byte f u ≡ true → each_byte f v ≡ true → each_byte f (u ++ v) ≡ true
-unfolding each_byte
-each_append f [] v p q = q
-each_append f (b ∷ u) v p q = let s = and_parts (f b) (each_byte f u) p in rw s.0 (each_append f u v s.1 q)
-
-pub lines-append : (u v : List ℕ) → lines_in (u ++ v) ≡ lines_in u + lines_in v
-unfolding lines_in
-lines-append [] v = omega arith
-lines-append (b ∷ u) v = rw (lines-append u v) (omega arith)
 
 pub lines-plain : (u : List ℕ) → each_byte plain u ≡ true → lines_in u ≡ 0
 unfolding lines_in each_byte

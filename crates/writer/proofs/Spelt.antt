@@ -30,7 +30,7 @@ expr-spelt ns (rest_of e g) f = (written_expr ns e, written_expr ns g, expr-spel
 expr-spelt ns (less e g) f = (written_expr ns e, written_expr ns g, expr-spelt ns e f.0, expr-spelt ns g f.1, refl)
 expr-spelt ns (same e g) f = (written_expr ns e, written_expr ns g, expr-spelt ns e f.0, expr-spelt ns g f.1, refl)
 
-ended_is : (d : Body) → ended d ≡ true → d ≡ end
+pub ended_is : (d : Body) → ended d ≡ true → d ≡ end
 unfolding ended
 ended_is d e = grind arith
 

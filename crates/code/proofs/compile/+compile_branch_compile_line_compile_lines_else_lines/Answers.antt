@@ -3,7 +3,7 @@ use Rattle.code.specs.declared.scan.Line.TheVariants.{Otherwise}
 use Rattle.code.proofs.Inside.{kept-wider, kept-both, kept-none, wrote_kept}
 use Rattle.code.proofs.Makes.{given_first, first_room, given_else, last_room, branch_part}
 use Rattle.code.proofs.Heads.{some-other, none-other}
-use Rattle.code.proofs.Parts.{option-weaker, branch-deep, part_none, given-rest, part-more, stops-done, goes-room, plain-part, is_branch, flat-rest, else-missing, given-second, second_none, second-some}
+use Rattle.code.proofs.Parts.{branch-deep, part_none, given-rest, part-more, stops-done, goes-room, plain-part, branch-made, flat-rest, else-missing, given-second, second_none, second-some}
 use Rattle.code.proofs.compile.+compile_branch_compile_line_compile_lines_else_lines.Goals as goal
 
 pub compile_branch-returns-then-depth-eq0 : goal.compile_branch-returns-then-depth-eq0
@@ -73,26 +73,11 @@ compile_branch-returns t c =
 
 pub compile_line-returns-in-Test : goal.compile_line-returns-in-Test
 compile_line-returns-in-Test t c =
-    option-weaker c.compile_branch.result _ _ _ _
-    (λ f ns b z g. f ns b z g (is_branch ns c.args.of.text.bytes.now z c.args.depth c.args.of.room b c.args.p c.args.line false c.in-Test.expr c.requires.scanned c.in-Test.is g))
-    (λ q m. record {
-      moved = m.moved;
-      line = m.line;
-      further = m.further;
-      part = λ ns b z g. m.part ns b z g (is_branch ns c.args.of.text.bytes.now z c.args.depth c.args.of.room b c.args.p c.args.line false c.in-Test.expr c.requires.scanned c.in-Test.is g);
-    })
-    c.compile_branch.ensures
+    branch-made c.args.of.text.bytes.now c.args.steps.now _ c.args.depth c.args.of.room c.args.p c.args.line false c.in-Test.expr c.requires.scanned c.in-Test.is c.compile_branch.result c.compile_branch.ensures
 
 pub compile_line-returns-in-Loop : goal.compile_line-returns-in-Loop
 compile_line-returns-in-Loop t c =
-    option-weaker c.compile_branch-in-Loop.result _ _ _ _
-    (λ f ns b z g. f ns b z g (is_branch ns c.args.of.text.bytes.now z c.args.depth c.args.of.room b c.args.p c.args.line true c.in-Loop.expr c.requires.scanned c.in-Loop.is g))
-    (λ q m. record {
-      moved = m.moved;
-      line = m.line;
-      further = m.further;
-      part = λ ns b z g. m.part ns b z g (is_branch ns c.args.of.text.bytes.now z c.args.depth c.args.of.room b c.args.p c.args.line true c.in-Loop.expr c.requires.scanned c.in-Loop.is g);
-    })
+    branch-made c.args.of.text.bytes.now c.args.steps.now _ c.args.depth c.args.of.room c.args.p c.args.line true c.in-Loop.expr c.requires.scanned c.in-Loop.is c.compile_branch-in-Loop.result
     c.compile_branch-in-Loop.ensures
 
 pub compile_line-returns-in_default : goal.compile_line-returns-in_default

@@ -14,7 +14,7 @@ use super::words::{ENTRY, write_entry};
 const DEEPEST: usize = 16;
 
 // Where a line stands: its first byte, its number in the text, and the entry that is made of it.
-#[derive(Clone, Copy)]
+#[derive(Clone, Copy, PartialEq, Eq, Debug)]
 pub struct Place {
     pub at: usize,
     pub line: u32,
@@ -90,6 +90,9 @@ fn close(steps: &mut [u32], p: Place, first: Place, last: Place, looped: bool, e
     };
     write_entry(steps, p.entry, branch, p.line);
 }
+
+// The four functions of this cycle ask for the same of a place and of the words: these change from call to call and the words are lent
+// anew, so no type keeps that a place lies in the text and that the words have room.
 
 // The lines of an else, if one stands at `first`; the place of the end behind them, and its entry.
 #[cycle(compile_branch_compile_line_compile_lines_else_lines)]

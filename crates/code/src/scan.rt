@@ -10,8 +10,8 @@ use grammar::names::name_index;
 use grammar::words::word_end;
 
 // A line: what it says, with the bytes where its expressions stand. `Heading` is the line of the own numbers or of the cells.
-// Not the grammar's Line, which is of a line that was checked: this one knows headings, and has bytes that fit a step.
-#[derive(Clone, Copy)]
+// Not the grammar's Line, which is of a line that was checked: this one knows headings, and has bytes and flags as a step has them.
+#[derive(Clone, Copy, PartialEq, Eq, Debug)]
 pub enum Line {
     Heading,
     Put { own: u32, expr: u32 },

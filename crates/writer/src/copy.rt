@@ -38,7 +38,7 @@ fn left_behind(b: u8, behind: &[u8]) -> usize
 }
 
 // How far a copy has come: how many bytes are written, how many more are to be left out, and whether it is inside a word.
-#[derive(Clone, Copy)]
+#[derive(Clone, Copy, PartialEq, Eq, Debug)]
 pub struct Copying {
     pub len: usize,
     pub left: usize,

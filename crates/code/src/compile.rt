@@ -91,10 +91,8 @@ fn close(steps: &mut [u32], p: Place, first: Place, last: Place, looped: bool, e
     write_entry(steps, p.entry, branch, p.line);
 }
 
-// The four functions of this cycle ask for the same of a place and of the words: these change from call to call and the words are lent
-// anew, so no type keeps that a place lies in the text and that the words have room.
-
 // The lines of an else, if one stands at `first`; the place of the end behind them, and its entry.
+// Each of these four asks for the place in the text and the room in the words: both are others at each call, so that no type keeps it.
 #[cycle(compile_branch_compile_line_compile_lines_else_lines)]
 fn else_lines(of: Source, first: Place, depth: usize, steps: &mut [u32]) -> Option<Place>
     requires within { first.at ≤ length of.text.bytes.now }

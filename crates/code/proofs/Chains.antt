@@ -1,9 +1,9 @@
 -- Chains of jumps end.
-use Rattle.std.proofs.Common.{◌≡◌, ℕ, ◌<◌, ◌≤◌, true, false, ltb, List, sym, refl, ◌∙◌, subst, inl, inr, arith}
+use Rattle.std.proofs.Common.{◌≡◌, ℕ, ◌<◌, ◌≤◌, true, false, ltb, List, sym, ◌∙◌, subst, inl, inr, arith}
 use Rattle.std.proofs.lemmas.Bool.{cases_Bool, ltb-true}
 use Rattle.lanes.specs.Syntax.{Body}
 use Rattle.code.specs.declared.step.Step.{Step}
-use Rattle.code.specs.declared.step.Step.TheVariants.{Put, Read, Write, Branch, Jump, Barrier, End}
+use Rattle.code.specs.declared.step.Step.TheVariants.{Jump, End}
 use Rattle.code.specs.Words.{step_at}
 use Rattle.code.specs.Code.{Coded, Does, Goes, Onward, is_loop, is_jump}
 
@@ -17,22 +17,10 @@ jump-within ws lines i to e =
     ]
 
 loop-stays : (s : Step) → is_loop s ≡ true → is_jump s ≡ false
-loop-stays (Put k x i) h = refl
-loop-stays (Read f k x i) h = refl
-loop-stays (Write f x y i) h = refl
-loop-stays (Branch x y n j f) h = refl
-loop-stays (Jump i) h = sym h
-loop-stays (Barrier i) h = refl
-loop-stays End h = refl
+loop-stays s h = grind arith
 
 pub no_jump : (s : Step) → ((x : ℕ) → s ≡ Jump x → ⊥) → is_jump s ≡ false
-no_jump (Put k x i) h = refl
-no_jump (Read f k x i) h = refl
-no_jump (Write f x y i) h = refl
-no_jump (Branch x y n j f) h = refl
-no_jump (Jump i) h = absurd (h i refl)
-no_jump (Barrier i) h = refl
-no_jump End h = refl
+no_jump s h = grind arith
 
 module _ (N : ℕ → List ℕ → Type 0) (text : List ℕ) (owns lines : ℕ) (at : ℕ → Body) (code : ℕ → Step) where
   -- One jump followed.

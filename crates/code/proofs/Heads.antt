@@ -1,17 +1,19 @@
 -- The first word of a line.
-use Rattle.std.proofs.Common.{◌≡◌, ℕ, ◌+◌, ◌≤◌, true, false, cond, ◌≢◌, ◌⊎◌, List, [], ◌∷◌, ◌++◌, length, get_or, drop, Some, None, codes, Option, IsSomeAnd, sym, refl, ap, ◌∙◌, subst, inl, inr, arith}
+use Rattle.std.proofs.Common.{◌≡◌, ℕ, ◌+◌, ◌≤◌, true, false, ◌≢◌, ◌⊎◌, List, [], ◌∷◌, ◌++◌, length, get_or, drop, Some, None, Option, IsSomeAnd, sym, refl, ap, ◌∙◌, subst, inl, inr, arith}
 use Rattle.std.specs.List.{between}
 use Rattle.std.proofs.lemmas.List.{length-drop}
 use Rattle.std.proofs.lemmas.Bool.{true≢false}
 use Rattle.lanes.specs.Syntax.{Expr, fixed, var, lane, group, lanes, plus, minus, times, over, rest_of, less, same}
 use Rattle.grammar.specs.declared.keywords.Keyword.{Keyword}
-use Rattle.grammar.specs.declared.keywords.Keyword.TheVariants.{Own, Cells, Cell, Field, Barrier, If, Else, End, While, Lane, Group, Lanes}
+use Rattle.grammar.specs.declared.keywords.Keyword.TheVariants.{Cell, Field}
 use Rattle.grammar.specs.Spelling.{word_byte, digit, each_byte, same_bytes, one_of, keywords, IsName, SpellsExpr, Named}
 use Rattle.grammar.specs.Stands.{Stands, Apart}
 use Rattle.grammar.specs.Words.{WordEnd}
 use Rattle.grammar.specs.Names.{Distinct, PlaceOf}
 use Rattle.grammar.specs.Runs.{written}
+use Rattle.grammar.specs.Walk.{key_of}
 use Rattle.grammar.proofs.Scanned.{word-ends}
+use Rattle.grammar.proofs.Walks.{key-written}
 use Rattle.grammar.proofs.Bytewise.{named-names}
 use Rattle.code.specs.declared.scan.Line.{Line}
 use Rattle.code.specs.declared.scan.Line.TheVariants.{Put}
@@ -24,75 +26,20 @@ pub each_none : each_byte word_byte [] ≡ true
 unfolding each_byte
 each_none = refl
 
-which : List ℕ → Keyword
-which u =
-    cond (same_bytes (codes "own") u) Own (cond (same_bytes (codes "cells") u) Cells (cond (same_bytes (codes "cell") u) Cell
-    (cond (same_bytes (codes "field") u) Field (cond (same_bytes (codes "barrier") u) Barrier (cond (same_bytes (codes "if") u) If
-    (cond (same_bytes (codes "else") u) Else (cond (same_bytes (codes "end") u) End (cond (same_bytes (codes "while") u) While
-    (cond (same_bytes (codes "lane") u) Lane (cond (same_bytes (codes "group") u) Group Lanes))))))))))
-
-which-written : (k : Keyword) → which (written k) ≡ k
-unfolding which same_bytes
-which-written Own = refl
-which-written Cells = refl
-which-written Cell = refl
-which-written Field = refl
-which-written Barrier = refl
-which-written If = refl
-which-written Else = refl
-which-written End = refl
-which-written While = refl
-which-written Lane = refl
-which-written Group = refl
-which-written Lanes = refl
-
 written-word : (k : Keyword) → each_byte word_byte (written k) ≡ true
 unfolding each_byte
-written-word Own = refl
-written-word Cells = refl
-written-word Cell = refl
-written-word Field = refl
-written-word Barrier = refl
-written-word If = refl
-written-word Else = refl
-written-word End = refl
-written-word While = refl
-written-word Lane = refl
-written-word Group = refl
-written-word Lanes = refl
+written-word k = grind arith
 
 written-taken : (k : Keyword) → one_of keywords (written k) ≡ true
 unfolding one_of keywords same_bytes
-written-taken Own = refl
-written-taken Cells = refl
-written-taken Cell = refl
-written-taken Field = refl
-written-taken Barrier = refl
-written-taken If = refl
-written-taken Else = refl
-written-taken End = refl
-written-taken While = refl
-written-taken Lane = refl
-written-taken Group = refl
-written-taken Lanes = refl
+written-taken k = grind arith
 
 written-some : (k : Keyword) → 1 ≤ length (written k)
-written-some Own = omega arith
-written-some Cells = omega arith
-written-some Cell = omega arith
-written-some Field = omega arith
-written-some Barrier = omega arith
-written-some If = omega arith
-written-some Else = omega arith
-written-some End = omega arith
-written-some While = omega arith
-written-some Lane = omega arith
-written-some Group = omega arith
-written-some Lanes = omega arith
+written-some k = grind arith
 
 pub keyword-is : (w : Option Keyword) (u : List ℕ) (k : Keyword) → WordIs w u → u ≡ written k → w ≡ Some k
 keyword-is None u k h e = absurd (h k e)
-keyword-is (Some j) u k h e = ap Some (sym (which-written j) ∙ ap which (sym h ∙ e) ∙ which-written k)
+keyword-is (Some j) u k h e = sym (key-written j) ∙ ap key_of (sym h ∙ e) ∙ key-written k
 
 pub name_free : (u : List ℕ) (k : Keyword) → IsName u → u ≢ written k
 name_free u k n e = true≢false (sym (written-taken k) ∙ ap (one_of keywords) (sym e) ∙ n.free)
@@ -195,19 +142,7 @@ module _ (N : ℕ → List ℕ → Type 0) (names : (k : ℕ) (u : List ℕ) →
       ]
 
 value-put : (k x e : ℕ) (w : Option Keyword) → (w ≡ Some Cell → ⊥) → (w ≡ Some Field → ⊥) → value_line k x e w ≡ Put k x
-value-put k x e None p q = refl
-value-put k x e (Some Own) p q = refl
-value-put k x e (Some Cells) p q = refl
-value-put k x e (Some Cell) p q = absurd (p refl)
-value-put k x e (Some Field) p q = absurd (q refl)
-value-put k x e (Some Barrier) p q = refl
-value-put k x e (Some If) p q = refl
-value-put k x e (Some Else) p q = refl
-value-put k x e (Some End) p q = refl
-value-put k x e (Some While) p q = refl
-value-put k x e (Some Lane) p q = refl
-value-put k x e (Some Group) p q = refl
-value-put k x e (Some Lanes) p q = refl
+value-put k x e w p q = grind arith
 
 -- An expression stands behind the equals sign.
 pub value-expr : (ns : List (List ℕ)) (text : List ℕ) (k x : ℕ) (r : Line) (e : Expr) → Names ns text → ValueScan text k x r → Stands (Named ns) text x e → r ≡ Put k x

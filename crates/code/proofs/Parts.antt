@@ -1,13 +1,13 @@
 -- Lines of a body made into entries, one after the other.
 use Rattle.std.proofs.Common.{◌≡◌, ℕ, suc, ◌+◌, ◌<◌, ◌≤◌, Bool, true, false, List, [], ◌∷◌, ◌++◌, length, drop, Some, None, codes, Option, sym, refl, ap, ◌∙◌, subst, inl, inr, arith, MatchOption}
-use Rattle.std.proofs.lemmas.Bool.{cases_Bool, true≢false, both_ways}
+use Rattle.std.proofs.lemmas.Bool.{cases_Bool, both_ways}
 use Rattle.lanes.specs.Syntax.{Body, ended, end}
 use Rattle.grammar.specs.declared.keywords.Keyword.TheVariants.{Else, End}
 use Rattle.grammar.specs.Spelling.{each_byte, SpellsBody, Named}
 use Rattle.grammar.specs.Taken.{depth}
 use Rattle.code.specs.declared.step.Step.{Step}
 use Rattle.code.specs.declared.scan.Line.{Line}
-use Rattle.code.specs.declared.scan.Line.TheVariants.{Heading, Put, Read, Write, Wait, Test, Loop, Otherwise, Close}
+use Rattle.code.specs.declared.scan.Line.TheVariants.{Test, Loop, Otherwise, Close}
 use Rattle.code.specs.declared.compile.Place.{Place}
 use Rattle.code.specs.Lines.{lines_of, else_lines_spec}
 use Rattle.code.specs.Words.{Wrote}
@@ -21,23 +21,13 @@ use Rattle.code.proofs.Bodies.{told, halted, plain, branch, branching, branch_li
 use Rattle.code.proofs.Inside.{kept_entry, kept-none}
 
 pub not-stopping : (looped : Bool) (x : ℕ) (r : Option Line) → r ≡ Some (branch_line looped x) → stopping r ≡ true → ⊥
-not-stopping false x r q h = true≢false (sym h ∙ ap stopping q)
-not-stopping true x r q h = true≢false (sym h ∙ ap stopping q)
+not-stopping looped x r q h = grind arith
 
 branch-branching : (looped : Bool) (x : ℕ) (r : Option Line) → r ≡ Some (branch_line looped x) → branching r ≡ true
-branch-branching false x r q = ap branching q
-branch-branching true x r q = ap branching q
+branch-branching looped x r q = grind arith
 
 pub flat-rest : (r : Line) → ((x : ℕ) → r ≡ Test x → ⊥) → ((x : ℕ) → r ≡ Loop x → ⊥) → branching (Some r) ≡ false
-flat-rest Heading p q = refl
-flat-rest (Put k x) p q = refl
-flat-rest (Read f k x) p q = refl
-flat-rest (Write f x y) p q = refl
-flat-rest Wait p q = refl
-flat-rest (Test x) p q = absurd (p x refl)
-flat-rest (Loop x) p q = absurd (q x refl)
-flat-rest Otherwise p q = refl
-flat-rest Close p q = refl
+flat-rest r p q = grind arith
 
 same_branch : (f g : Bool) (x y : ℕ) → branch_line f x ≡ branch_line g y → (f ≡ g) × (x ≡ y)
 same_branch false false x y q = (refl, cc)

@@ -39,22 +39,10 @@ branch-is (Barrier i) h = absurd (both_ways false refl h)
 branch-is End h = absurd (both_ways false refl h)
 
 inside_is : (s : Step) (b p : ℕ) → Inside s b p → is_branch s ≡ true
-inside_is (Put k x i) b p h = absurd h
-inside_is (Read f k x i) b p h = absurd h
-inside_is (Write f x y i) b p h = absurd h
-inside_is (Branch x y n j f) b p h = refl
-inside_is (Jump i) b p h = absurd h
-inside_is (Barrier i) b p h = absurd h
-inside_is End b p h = absurd h
+inside_is s b p h = grind arith
 
 meets-is : (code : ℕ → Step) (s : Step) (r : ℕ) → Meets code s r → is_branch s ≡ true
-meets-is code (Put k x i) r h = absurd h
-meets-is code (Read f k x i) r h = absurd h
-meets-is code (Write f x y i) r h = absurd h
-meets-is code (Branch x y n j f) r h = refl
-meets-is code (Jump i) r h = absurd h
-meets-is code (Barrier i) r h = absurd h
-meets-is code End r h = absurd h
+meets-is code s r h = grind arith
 
 -- A step that goes to entries lo to hi sends a lane there.
 sends-within : (lo hi : ℕ) (s : Step) (q : ℕ) → Within lo hi s → Sends s q → Among lo hi q

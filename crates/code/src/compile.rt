@@ -168,6 +168,7 @@ fn compile_line(of: Source, p: Place, line: Line, depth: usize, steps: &mut [u32
 }
 
 // The lines from a place on, up to an else or an end that belongs to none of them, or the end of the text.
+// A loop of its own: each line says where the next one stands, and writes into the words that the others write into.
 #[cycle(compile_branch_compile_line_compile_lines_else_lines)]
 fn compile_lines(of: Source, from: Place, depth: usize, steps: &mut [u32]) -> Option<Place>
     requires within { from.at ≤ length of.text.bytes.now }

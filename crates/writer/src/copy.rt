@@ -38,6 +38,7 @@ fn left_behind(b: u8, behind: &[u8]) -> usize
 }
 
 // How far a copy has come: how many bytes are written, how many more are to be left out, and whether it is inside a word.
+// How many are written is a number, as the bytes lie in a lent slice: nothing is allocated.
 #[derive(Clone, Copy, PartialEq, Eq, Debug)]
 pub struct Copying {
     pub len: usize,
@@ -89,6 +90,7 @@ pub fn copy_all(text: &[u8], out: &mut [u8]) -> usize
         left: left_out(text),
         inside: false,
     };
+    // Down the text and not by a chain, as each byte is judged with all that stands behind it.
     let mut rest = text;
     while let Some((b, behind)) = rest.split_first() {
         at = copy_byte(*b, behind, out, at);

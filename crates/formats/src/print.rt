@@ -1,7 +1,7 @@
 // What is told, and a refusal, in print.
 ghost use Rattle.std.specs.Prelude.{◌≡◌, ◌+◌, ◌*◌, ◌<◌, ◌≤◌, [], ◌∷◌, ◌++◌, length};
 ghost use Rattle.formats.specs.Wrote.{Writes};
-ghost use Rattle.formats.specs.Printed.{byte_behind, lines_from, with_number, touch_words, place_words, race_line, wrong_line, stuck_line, printed, refusal_line, Prints};
+ghost use Rattle.formats.specs.Printed.{byte_behind, lines_from, with_number, touch_words, place_words, race_line, line_end_spec, stuck_line, printed, refusal_line, Prints};
 
 use crate::pen::Pen;
 use crate::refusal::{Lent, Refusal};
@@ -60,12 +60,13 @@ fn put_race(pen: &mut Pen, place: Place, cell: usize, first: Touch, second: Touc
     pen.put(10);
 }
 
-fn put_wrong(pen: &mut Pen, group: usize, lane: usize)
-    requires { pen.old.at + 256 ≤ length pen.old.out.now }
-    ensures { Writes pen.old pen.new (wrong_line group lane) }
+// A line of two texts with a number behind each.
+fn put_line(pen: &mut Pen, text: &[u8], n: u64, between: &[u8], m: u64)
+    requires { pen.old.at + length text.now + length between.now + 41 ≤ length pen.old.out.now }
+    ensures { Writes pen.old pen.new (with_number text.now n ++ (with_number between.now m ++ line_end_spec)) }
 {
-    pen.put_number(b"wrong group ", group as u64);
-    pen.put_number(b" lane ", lane as u64);
+    pen.put_number(text, n);
+    pen.put_number(between, m);
     pen.put(10);
 }
 
@@ -74,15 +75,6 @@ fn put_stuck(pen: &mut Pen, group: usize)
     ensures { Writes pen.old pen.new (stuck_line group) }
 {
     pen.put_number(b"stuck group ", group as u64);
-    pen.put(10);
-}
-
-fn put_refusal(pen: &mut Pen, number: u64, place: usize)
-    requires { pen.old.at + 256 ≤ length pen.old.out.now }
-    ensures { Writes pen.old pen.new (refusal_line number place) }
-{
-    pen.put_number(b"refused ", number);
-    pen.put_number(b" at ", place as u64);
     pen.put(10);
 }
 
@@ -101,7 +93,9 @@ fn put_told(pen: &mut Pen, told: Told, cells: &[u32])
             first,
             second,
         } => put_race(pen, place, cell, first, second),
-        Told::Wrong { group, lane } => put_wrong(pen, group, lane),
+        Told::Wrong { group, lane } => {
+            put_line(pen, b"wrong group ", group as u64, b" lane ", lane as u64);
+        }
         Told::Stuck { group } => put_stuck(pen, group),
         Told::TooLong => pen.put_all(b"too long\n"),
     }
@@ -120,6 +114,7 @@ pub fn print_told(out: &mut [u8], told: Told, cells: &[u32]) -> Result<usize, Re
 }
 
 // Prints a refusal.
+#[tactic(auto, unfolding(crate::specs::Printed::refusal_line))]
 pub fn print_refusal(out: &mut [u8], number: u64, place: usize) -> Result<usize, Refusal>
     ensures { Prints 256 (refusal_line number place) out.old out.new result }
 {
@@ -127,6 +122,6 @@ pub fn print_refusal(out: &mut [u8], number: u64, place: usize) -> Result<usize,
         return Err(Refusal::Short(Lent::Printed));
     }
     let mut pen = Pen { out, at: 0 };
-    put_refusal(&mut pen, number, place);
+    put_line(&mut pen, b"refused ", number, b" at ", place as u64);
     Ok(pen.at)
 }

@@ -1,7 +1,5 @@
-use Rattle.formats.specs.Printed.{refusal_line}
 use Rattle.formats.proofs.Pieces.{writes_more}
-use Rattle.formats.proofs.print.put_refusal.Goals as goal
+use Rattle.formats.proofs.print.put_line.Goals as goal
 
 pub returns : goal.returns
-unfolding refusal_line
 returns c = writes_more _ _ _ _ _ c.put_number.ensures.wrote (writes_more _ _ _ _ _ c.put_number-2.ensures.wrote c.put.ensures)

@@ -1,7 +1,0 @@
-use Rattle.formats.specs.Printed.{wrong_line}
-use Rattle.formats.proofs.Pieces.{writes_more}
-use Rattle.formats.proofs.print.put_wrong.Goals as goal
-
-pub returns : goal.returns
-unfolding wrong_line
-returns c = writes_more _ _ _ _ _ c.put_number.ensures.wrote (writes_more _ _ _ _ _ c.put_number-2.ensures.wrote c.put.ensures)

@@ -57,6 +57,7 @@ pub fn lines_before(text: &[u8], at: usize) -> usize
 }
 
 // Where the last word of a text begins; its end, if white space stands there.
+// Here and in `cli` (for lines) each is one search of std's: a function for both would be no shorter.
 fn last_word(text: &[u8]) -> usize
     ensures within { result ≤ length text.now }
     ensures word { (k : ℕ) → result ≤ k → k < length text.now → 32 < slice_index text.now k }

@@ -1,6 +1,6 @@
 // The grid of lanes and cells in lent slices. The definitions in specs/ say which grid the slices stand for.
-// Sizes, slices, group and lane are passed apart: two slices of one struct can't be lent to be written at once, and a struct for a
-// lane's place would be made anew for each lane of a row that a loop goes over.
+// Sizes, slices, group and lane are passed apart, and clauses say what holds between them: two slices of one struct can't be lent to be
+// written at once, and a struct for a lane's place would be made anew for each lane that a loop goes over.
 #![tactic(auto)]
 
 mod acts;

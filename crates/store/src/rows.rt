@@ -1,7 +1,7 @@
 // One slot of neighbouring lanes, which are neighbouring words: written as a whole.
 ghost use Rattle.std.specs.Prelude.{◌≡◌, ℕ, ◌+◌, ◌<◌, ◌≤◌, length, if◌then◌else◌, nat_eq, slice_index};
 ghost use Rattle.std.proofs.Math.Seq.{paste};
-ghost use Rattle.store.specs.Layout.{slots, room};
+ghost use Rattle.store.specs.Layout.{slots, place_of, room};
 ghost use Rattle.store.specs.Rows.{slot_row, put_row_spec};
 
 use crate::Sizes;
@@ -25,6 +25,18 @@ pub fn copy_cells(cells: &mut [u32], i: usize, ys: &[u32])
     cells[i..i + ys.len()].copy_from_slice(ys);
 }
 
+// The place of slot s of lane l of group g, behind which those of n - 1 lanes more lie.
+fn row_place(z: Sizes, g: usize, s: usize, l: usize, n: usize) -> usize
+    requires group { g < z.groups }
+    requires slot { s < slots z }
+    requires lane { l < z.lanes }
+    requires within { l + n ≤ z.lanes }
+    ensures is { result ≡ place_of z g s l }
+    ensures within { result + n ≤ room z }
+{
+    place(z, g, s, l)
+}
+
 // Lanes of group g from lane l on, one for each of the numbers: slot s of each is its number.
 fn copy_row(z: Sizes, lanes: &mut [u32], g: usize, s: usize, l: usize, xs: &[u32])
     requires fit { room z ≤ length lanes.old }
@@ -34,7 +46,7 @@ fn copy_row(z: Sizes, lanes: &mut [u32], g: usize, s: usize, l: usize, xs: &[u32
     requires within { l + length xs.now ≤ z.lanes }
     ensures { lanes.new ≡ slot_row z g s l (λ i. slice_index xs.now i) (length xs.now) lanes.old }
 {
-    let a = place(z, g, s, l);
+    let a = row_place(z, g, s, l, xs.len());
     lanes[a..a + xs.len()].copy_from_slice(xs);
 }
 
@@ -47,7 +59,7 @@ pub fn fill_row(z: Sizes, lanes: &mut [u32], g: usize, s: usize, l: usize, n: us
     requires within { l + n ≤ z.lanes }
     ensures { lanes.new ≡ slot_row z g s l (λ _. v) n lanes.old }
 {
-    let a = place(z, g, s, l);
+    let a = row_place(z, g, s, l, n);
     lanes[a..a + n].fill(v);
 }
 
@@ -59,7 +71,7 @@ pub fn branch_row(z: Sizes, lanes: &mut [u32], g: usize, l: usize, xs: &[u32], y
     requires within { l + length xs.now ≤ z.lanes }
     ensures { lanes.new ≡ slot_row z g 0 l (λ i. (if nat_eq (slice_index xs.now i) 0 then no else yes)) (length xs.now) lanes.old }
 {
-    let a = place(z, g, 0, l);
+    let a = row_place(z, g, 0, l, xs.len());
     choose(&mut lanes[a..a + xs.len()], xs, yes, no);
 }
 

@@ -99,6 +99,7 @@ pub(crate) fn count_right<F: FnMut(Case<'_>) -> io::Result<Option<bool>>>(
 {
     let mut rest = file;
     let mut right = 0u64;
+    // No file has as many cases; that the file behind a case is shorter is promised nowhere.
     for _ in 0..1000 {
         let Some((case, behind)) = find_case(rest) else {
             break;

@@ -8,6 +8,7 @@ pub mod line;
 pub mod look;
 pub mod note;
 pub mod outcome;
+pub mod program;
 pub mod release;
 pub mod replay;
 pub mod row;

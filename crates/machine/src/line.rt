@@ -6,11 +6,12 @@ ghost use Rattle.lanes.specs.Grid.{Grid, Turn};
 ghost use Rattle.store.specs.Layout.{room, cells_room};
 ghost use Rattle.store.specs.Lent.{Lent};
 ghost use Rattle.machine.specs.Sofar.{Sofar};
-ghost use Rattle.machine.specs.Line.{Loaded, Masked, LineDone};
+ghost use Rattle.machine.specs.Line.{LoadedAs, Masked, LineDone};
 ghost use Rattle.machine.specs.Plans.{plan_of_spec, Worked, SecondWorked, RowIn, LineOutcome};
 
 use super::exec::{Active, Work, do_masked};
 use super::outcome::Stopped;
+use super::program::Program;
 use code::{Step, decode, text_line_of};
 use masks::{first_lanes, without};
 use store::{Sizes, Todo, own_base};
@@ -118,9 +119,7 @@ pub fn is_inside(z: Sizes, row: Active) -> bool
 // The lanes of the mask do the line at the entry at which they all stand, lowest first. The first that touches a cell that isn't there,
 // or whose touch races, stops it.
 pub fn do_line(
-    text: &[u8],
-    steps: &[u32],
-    lines: usize,
+    program: &Program,
     z: Sizes,
     lanes: &mut [u32],
     cells: &mut [u32],
@@ -130,11 +129,11 @@ pub fn do_line(
 ) -> Result<(), Stopped>
     requires lent { Lent z lanes.old cells.old }
     requires watch { 6 * cells_room z ≤ length marks.old }
-    requires few { lines < 4294967296 }
-    ensures did { (ns : List (List ℕ)) (at : ℕ → Body) → Loaded ns text.now steps.now lines z at → Masked z at steps.now lines lanes.old cells.old row.group row.start row.mask entry → LineOutcome z at (suc lines) lanes.old cells.old marks.old lanes.new cells.new marks.new row.group row.start row.mask result }
-    ensures done { (ns : List (List ℕ)) (at : ℕ → Body) (d : Grid) (ts : List Turn) → Loaded ns text.now steps.now lines z at → Masked z at steps.now lines lanes.old cells.old row.group row.start row.mask entry → Sofar z at d ts lanes.old cells.old marks.old → LineDone z at d ts row.group row.start row.mask lanes.new cells.new marks.new result }
+    requires few { program.now.lines < 4294967296 }
+    ensures did { (ns : List (List ℕ)) (at : ℕ → Body) → LoadedAs ns program.now z at → Masked z at program.now.steps.now program.now.lines lanes.old cells.old row.group row.start row.mask entry → LineOutcome z at (suc program.now.lines) lanes.old cells.old marks.old lanes.new cells.new marks.new row.group row.start row.mask result }
+    ensures done { (ns : List (List ℕ)) (at : ℕ → Body) (d : Grid) (ts : List Turn) → LoadedAs ns program.now z at → Masked z at program.now.steps.now program.now.lines lanes.old cells.old row.group row.start row.mask entry → Sofar z at d ts lanes.old cells.old marks.old → LineDone z at d ts row.group row.start row.mask lanes.new cells.new marks.new result }
 {
-    let Some(plan) = plan_of(z.owns, decode(steps, lines, entry)) else {
+    let Some(plan) = plan_of(z.owns, decode(program.steps, program.lines, entry)) else {
         return Ok(());
     };
     if !is_inside(z, row) {
@@ -142,12 +141,12 @@ pub fn do_line(
     }
     let mut xs = [0; 32];
     let mut ys = [0; 32];
-    values_of(text, plan.first, z, lanes, row, &mut xs);
-    seconds_of(text, plan, z, lanes, row, &mut ys);
+    values_of(program.text, plan.first, z, lanes, row, &mut xs);
+    seconds_of(program.text, plan, z, lanes, row, &mut ys);
     let work = Work {
         todo: plan.todo,
-        stop: lines as u32,
-        line: text_line_of(steps, entry),
+        stop: program.lines as u32,
+        line: text_line_of(program.steps, entry),
     };
     do_masked(z, lanes, cells, marks, row, work, &xs, &ys)
 }

@@ -5,13 +5,14 @@ ghost use Rattle.lanes.specs.Grid.{Grid, Turn};
 ghost use Rattle.store.specs.Layout.{room, cells_room};
 ghost use Rattle.store.specs.Lent.{Lent, Lined};
 ghost use Rattle.machine.specs.Sofar.{Sofar};
-ghost use Rattle.machine.specs.Line.{Loaded, LineDone};
+ghost use Rattle.machine.specs.Line.{LoadedAs, LineDone};
 ghost use Rattle.machine.specs.Schedule.{RowCan};
 ghost use Rattle.machine.specs.Plans.{RowIn, RowStood, RowSettled, RowRan};
 
 use super::exec::Active;
 use super::line::{do_line, is_inside};
 use super::outcome::Stopped;
+use super::program::Program;
 use code::settle;
 use masks::{is_on, lowest};
 use store::{Sizes, line_of, stand};
@@ -53,9 +54,7 @@ fn settle_row(
 
 // The lanes of the mask, which all stand at one line, do it, lowest first. At an else or an end they first go where that goes.
 pub fn do_row(
-    text: &[u8],
-    steps: &[u32],
-    lines: usize,
+    program: &Program,
     z: Sizes,
     lanes: &mut [u32],
     cells: &mut [u32],
@@ -64,9 +63,9 @@ pub fn do_row(
 ) -> Result<(), Stopped>
     requires lent { Lent z lanes.old cells.old }
     requires watch { 6 * cells_room z ≤ length marks.old }
-    requires few { lines < 4294967296 }
-    ensures ran { (ns : List (List ℕ)) (at : ℕ → Body) → Loaded ns text.now steps.now lines z at → Lined z (suc lines) lanes.old → RowCan z at lanes.old cells.old row.group row.start row.mask → RowRan z at (suc lines) lanes.old cells.old marks.old lanes.new cells.new marks.new row.group row.start row.mask result }
-    ensures done { (ns : List (List ℕ)) (at : ℕ → Body) (d : Grid) (ts : List Turn) → Loaded ns text.now steps.now lines z at → Lined z (suc lines) lanes.old → RowCan z at lanes.old cells.old row.group row.start row.mask → Sofar z at d ts lanes.old cells.old marks.old → LineDone z at d ts row.group row.start row.mask lanes.new cells.new marks.new result }
+    requires few { program.now.lines < 4294967296 }
+    ensures ran { (ns : List (List ℕ)) (at : ℕ → Body) → LoadedAs ns program.now z at → Lined z (suc program.now.lines) lanes.old → RowCan z at lanes.old cells.old row.group row.start row.mask → RowRan z at (suc program.now.lines) lanes.old cells.old marks.old lanes.new cells.new marks.new row.group row.start row.mask result }
+    ensures done { (ns : List (List ℕ)) (at : ℕ → Body) (d : Grid) (ts : List Turn) → LoadedAs ns program.now z at → Lined z (suc program.now.lines) lanes.old → RowCan z at lanes.old cells.old row.group row.start row.mask → Sofar z at d ts lanes.old cells.old marks.old → LineDone z at d ts row.group row.start row.mask lanes.new cells.new marks.new result }
 {
     if !is_inside(z, row) {
         return Ok(());
@@ -75,6 +74,6 @@ pub fn do_row(
         return Ok(());
     };
     let line = line_of(z, lanes, row.group, row.start + low) as usize;
-    let entry = settle_row(steps, lines, z, lanes, row, line);
-    do_line(text, steps, lines, z, lanes, cells, marks, row, entry)
+    let entry = settle_row(program.steps, program.lines, z, lanes, row, line);
+    do_line(program, z, lanes, cells, marks, row, entry)
 }

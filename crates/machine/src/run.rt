@@ -10,6 +10,7 @@ ghost use Rattle.machine.specs.Line.{RunsIn, grid_in};
 ghost use Rattle.machine.specs.Verdict.{Over, Waiting, SetsOut, told_of};
 
 use super::choose::do_choice;
+use super::program::Program;
 use super::schedule::Scheduler;
 use super::verdict::Verdict;
 use super::view::View;
@@ -38,9 +39,7 @@ pub fn over(view: &View) -> Verdict
 // Turn after turn, as the scheduler names them, until there is something to tell.
 pub fn run_turns<S: Scheduler>(
     s: &mut S,
-    text: &[u8],
-    steps: &[u32],
-    lines: usize,
+    program: &Program,
     z: Sizes,
     lanes: &mut [u32],
     cells: &mut [u32],
@@ -49,16 +48,16 @@ pub fn run_turns<S: Scheduler>(
 ) -> Verdict
     requires lent { Lent z lanes.old cells.old }
     requires watch { 6 * cells_room z ≤ length marks.old }
-    requires few { lines ≤ 65536 }
+    requires few { program.now.lines ≤ 65536 }
     requires most { granted ≤ 1099511627776 }
-    requires sets { (ns : List (List ℕ)) × (at : ℕ → Body) × SetsOut S.Scheduler.knows s.old ns text.now steps.now lines z at lanes.old cells.old marks.old }
-    ensures { (ns : List (List ℕ)) (at : ℕ → Body) → SetsOut S.Scheduler.knows s.old ns text.now steps.now lines z at lanes.old cells.old marks.old → (ts : List Turn) × Shows granted z.lanes (grid_of z at lanes.old cells.old) ts (told_of result (field_of z cells.new)) }
+    requires sets { (ns : List (List ℕ)) × (at : ℕ → Body) × SetsOut S.Scheduler.knows s.old ns program.now.text.now program.now.steps.now program.now.lines z at lanes.old cells.old marks.old }
+    ensures { (ns : List (List ℕ)) (at : ℕ → Body) → SetsOut S.Scheduler.knows s.old ns program.now.text.now program.now.steps.now program.now.lines z at lanes.old cells.old marks.old → (ts : List Turn) × Shows granted z.lanes (grid_of z at lanes.old cells.old) ts (told_of result (field_of z cells.new)) }
 {
     let mut done = 0;
     loop {
         let view = View {
-            steps,
-            lines,
+            steps: program.steps,
+            lines: program.lines,
             sizes: z,
             lanes: &*lanes,
         };
@@ -66,7 +65,7 @@ pub fn run_turns<S: Scheduler>(
             return over(&view);
         };
         match do_choice(
-            text, steps, lines, z, lanes, cells, marks, granted, done, choice,
+            program, z, lanes, cells, marks, granted, done, choice,
         ) {
             Ok(k) => done = k,
             Err(verdict) => return verdict,

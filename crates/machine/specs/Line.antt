@@ -10,7 +10,7 @@ use Rattle.store.specs.declared.Sizes.{Sizes}
 use Rattle.store.specs.Layout.{cells_room}
 use Rattle.store.specs.Lent.{Lent, Lined, line_at, grid_of}
 use Rattle.masks.specs.Masks.{on}
-use Rattle.machine.specs.declared.program.Program.{Program}
+use Rattle.machine.specs.declared.source.Source.{Source}
 use Rattle.machine.specs.declared.view.View.{View}
 use Rattle.machine.specs.Sofar.{After, Outcome}
 
@@ -22,7 +22,7 @@ pub record Loaded (ns : List (List ℕ)) (text steps : List ℕ) (lines : ℕ) (
   pub coded : Coded (Named ns) text (length ns) lines at (step_at steps lines)
 
 -- That program is.
-abbrev pub LoadedAs : List (List ℕ) → Program → Sizes → (ℕ → Body) → Type 0
+abbrev pub LoadedAs : List (List ℕ) → Source → Sizes → (ℕ → Body) → Type 0
 LoadedAs ns p z at = Loaded ns p.text.now p.steps.now p.lines z at
 
 -- The lent slices are long enough, and every lane stands at an entry or behind the last.

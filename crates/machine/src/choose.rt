@@ -9,7 +9,7 @@ ghost use Rattle.machine.specs.Schedule.{CanDo};
 ghost use Rattle.machine.specs.Verdict.{StandsAt, Moved, MayGo};
 
 use super::exec::Active;
-use super::program::Program;
+use super::source::Source;
 use super::release::release;
 use super::row::do_row;
 use super::schedule::Choice;
@@ -19,7 +19,7 @@ use store::Sizes;
 
 // How many steps there are by then; or what is told. Before a row's step: if it would be more steps than were granted, it is too long.
 pub fn do_choice(
-    program: &Program,
+    source: &Source,
     z: Sizes,
     lanes: &mut [u32],
     cells: &mut [u32],
@@ -30,14 +30,14 @@ pub fn do_choice(
 ) -> Result<u64, Verdict>
     requires lent { Lent z lanes.old cells.old }
     requires watch { 6 * cells_room z ≤ length marks.old }
-    requires few { program.now.lines < 4294967290 }
+    requires few { source.now.lines < 4294967290 }
     requires within { done ≤ granted }
-    requires goes { MayGo z program.now.steps.now program.now.lines lanes.old choice }
-    ensures { (ns : List (List ℕ)) (at : ℕ → Body) (d : Grid) (ts : List Turn) → LoadedAs ns program.now z at → StandsAt z at program.now.lines d ts lanes.old cells.old marks.old done → CanDo z at lanes.old cells.old choice → Moved z at program.now.lines d lanes.old cells.old lanes.new cells.new marks.new granted done choice result }
+    requires goes { MayGo z source.now.steps.now source.now.lines lanes.old choice }
+    ensures { (ns : List (List ℕ)) (at : ℕ → Body) (d : Grid) (ts : List Turn) → LoadedAs ns source.now z at → StandsAt z at source.now.lines d ts lanes.old cells.old marks.old done → CanDo z at lanes.old cells.old choice → Moved z at source.now.lines d lanes.old cells.old lanes.new cells.new marks.new granted done choice result }
 {
     match choice {
         Choice::GoOn { group } => {
-            release(program.steps, program.lines, z, lanes, group);
+            release(source.steps, source.lines, z, lanes, group);
             Ok(done)
         }
         Choice::Row { group, start, mask } => {
@@ -46,7 +46,7 @@ pub fn do_choice(
                 return Err(Verdict::TooLong);
             }
             do_row(
-                program,
+                source,
                 z,
                 lanes,
                 cells,

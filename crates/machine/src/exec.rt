@@ -1,4 +1,5 @@
-// One line for the lanes of a row that are in a mask, with the numbers that were worked out for each.
+// One line for the lanes of a row that are in a mask, with the numbers that were worked out for each. Lanes, cells and touches are lent
+// beside each other: in a struct, a proof would know no more than the length of a slice that was lent from it to be read.
 ghost use Rattle.std.specs.Prelude.{◌≡◌, ℕ, ◌+◌, ◌*◌, ◌<◌, ◌≤◌, Bool, true, length};
 ghost use Rattle.store.specs.Layout.{cells_room};
 ghost use Rattle.store.specs.Lent.{Lent, phase_of_spec};
@@ -74,6 +75,7 @@ pub fn do_masked(
     ensures { RowOutcome z lanes.old cells.old marks.old lanes.new cells.new marks.new row.group row.start row.mask work.stop work.todo xs.now ys.now result }
 {
     let phase = phase_of(z, lanes, row.group);
+    // A loop: of slices that a closure writes a proof knows nothing behind the chain.
     for i in 0..32usize {
         if is_on(row.mask, i) {
             do_lane(

@@ -11,7 +11,7 @@ ghost use Rattle.machine.specs.Plans.{plan_of_spec, Worked, SecondWorked, RowIn,
 
 use super::exec::{Active, Work, do_masked};
 use super::outcome::Stopped;
-use super::program::Program;
+use super::source::Source;
 use code::{Step, decode, text_line_of};
 use masks::{first_lanes, without};
 use store::{Sizes, Todo, own_base};
@@ -119,7 +119,7 @@ pub fn is_inside(z: Sizes, row: Active) -> bool
 // The lanes of the mask do the line at the entry at which they all stand, lowest first. The first that touches a cell that isn't there,
 // or whose touch races, stops it.
 pub fn do_line(
-    program: &Program,
+    source: &Source,
     z: Sizes,
     lanes: &mut [u32],
     cells: &mut [u32],
@@ -129,24 +129,25 @@ pub fn do_line(
 ) -> Result<(), Stopped>
     requires lent { Lent z lanes.old cells.old }
     requires watch { 6 * cells_room z ≤ length marks.old }
-    requires few { program.now.lines < 4294967296 }
-    ensures did { (ns : List (List ℕ)) (at : ℕ → Body) → LoadedAs ns program.now z at → Masked z at program.now.steps.now program.now.lines lanes.old cells.old row.group row.start row.mask entry → LineOutcome z at (suc program.now.lines) lanes.old cells.old marks.old lanes.new cells.new marks.new row.group row.start row.mask result }
-    ensures done { (ns : List (List ℕ)) (at : ℕ → Body) (d : Grid) (ts : List Turn) → LoadedAs ns program.now z at → Masked z at program.now.steps.now program.now.lines lanes.old cells.old row.group row.start row.mask entry → Sofar z at d ts lanes.old cells.old marks.old → LineDone z at d ts row.group row.start row.mask lanes.new cells.new marks.new result }
+    requires few { source.now.lines < 4294967296 }
+    ensures did { (ns : List (List ℕ)) (at : ℕ → Body) → LoadedAs ns source.now z at → Masked z at source.now.steps.now source.now.lines lanes.old cells.old row.group row.start row.mask entry → LineOutcome z at (suc source.now.lines) lanes.old cells.old marks.old lanes.new cells.new marks.new row.group row.start row.mask result }
+    ensures done { (ns : List (List ℕ)) (at : ℕ → Body) (d : Grid) (ts : List Turn) → LoadedAs ns source.now z at → Masked z at source.now.steps.now source.now.lines lanes.old cells.old row.group row.start row.mask entry → Sofar z at d ts lanes.old cells.old marks.old → LineDone z at d ts row.group row.start row.mask lanes.new cells.new marks.new result }
 {
-    let Some(plan) = plan_of(z.owns, decode(program.steps, program.lines, entry)) else {
+    let Some(plan) = plan_of(z.owns, decode(source.steps, source.lines, entry)) else {
         return Ok(());
     };
     if !is_inside(z, row) {
         return Ok(());
     }
+    // Of a fixed size, as a row is, and as the machine asks for no memory.
     let mut xs = [0; 32];
     let mut ys = [0; 32];
-    values_of(program.text, plan.first, z, lanes, row, &mut xs);
-    seconds_of(program.text, plan, z, lanes, row, &mut ys);
+    values_of(source.text, plan.first, z, lanes, row, &mut xs);
+    seconds_of(source.text, plan, z, lanes, row, &mut ys);
     let work = Work {
         todo: plan.todo,
-        stop: program.lines as u32,
-        line: text_line_of(program.steps, entry),
+        stop: source.lines as u32,
+        line: text_line_of(source.steps, entry),
     };
     do_masked(z, lanes, cells, marks, row, work, &xs, &ys)
 }

@@ -12,7 +12,7 @@ ghost use Rattle.machine.specs.Plans.{RowIn, RowStood, RowSettled, RowRan};
 use super::exec::Active;
 use super::line::{do_line, is_inside};
 use super::outcome::Stopped;
-use super::program::Program;
+use super::source::Source;
 use code::settle;
 use masks::{is_on, lowest};
 use store::{Sizes, line_of, stand};
@@ -23,6 +23,7 @@ fn stand_all(z: Sizes, lanes: &mut [u32], row: Active, line: u32)
     requires inside { RowIn z row.group row.start row.mask }
     ensures { RowStood z row.group row.start row.mask line 32 lanes.old lanes.new }
 {
+    // A loop: of slices that a closure writes a proof knows nothing behind the chain.
     for i in 0..32usize {
         if is_on(row.mask, i) {
             stand(z, lanes, row.group, row.start + i, line);
@@ -54,7 +55,7 @@ fn settle_row(
 
 // The lanes of the mask, which all stand at one line, do it, lowest first. At an else or an end they first go where that goes.
 pub fn do_row(
-    program: &Program,
+    source: &Source,
     z: Sizes,
     lanes: &mut [u32],
     cells: &mut [u32],
@@ -63,9 +64,9 @@ pub fn do_row(
 ) -> Result<(), Stopped>
     requires lent { Lent z lanes.old cells.old }
     requires watch { 6 * cells_room z ≤ length marks.old }
-    requires few { program.now.lines < 4294967296 }
-    ensures ran { (ns : List (List ℕ)) (at : ℕ → Body) → LoadedAs ns program.now z at → Lined z (suc program.now.lines) lanes.old → RowCan z at lanes.old cells.old row.group row.start row.mask → RowRan z at (suc program.now.lines) lanes.old cells.old marks.old lanes.new cells.new marks.new row.group row.start row.mask result }
-    ensures done { (ns : List (List ℕ)) (at : ℕ → Body) (d : Grid) (ts : List Turn) → LoadedAs ns program.now z at → Lined z (suc program.now.lines) lanes.old → RowCan z at lanes.old cells.old row.group row.start row.mask → Sofar z at d ts lanes.old cells.old marks.old → LineDone z at d ts row.group row.start row.mask lanes.new cells.new marks.new result }
+    requires few { source.now.lines < 4294967296 }
+    ensures ran { (ns : List (List ℕ)) (at : ℕ → Body) → LoadedAs ns source.now z at → Lined z (suc source.now.lines) lanes.old → RowCan z at lanes.old cells.old row.group row.start row.mask → RowRan z at (suc source.now.lines) lanes.old cells.old marks.old lanes.new cells.new marks.new row.group row.start row.mask result }
+    ensures done { (ns : List (List ℕ)) (at : ℕ → Body) (d : Grid) (ts : List Turn) → LoadedAs ns source.now z at → Lined z (suc source.now.lines) lanes.old → RowCan z at lanes.old cells.old row.group row.start row.mask → Sofar z at d ts lanes.old cells.old marks.old → LineDone z at d ts row.group row.start row.mask lanes.new cells.new marks.new result }
 {
     if !is_inside(z, row) {
         return Ok(());
@@ -74,6 +75,6 @@ pub fn do_row(
         return Ok(());
     };
     let line = line_of(z, lanes, row.group, row.start + low) as usize;
-    let entry = settle_row(program.steps, program.lines, z, lanes, row, line);
-    do_line(program, z, lanes, cells, marks, row, entry)
+    let entry = settle_row(source.steps, source.lines, z, lanes, row, line);
+    do_line(source, z, lanes, cells, marks, row, entry)
 }

@@ -10,7 +10,7 @@ ghost use Rattle.machine.specs.Line.{RunsIn, grid_in};
 ghost use Rattle.machine.specs.Verdict.{Over, Waiting, SetsOut, told_of};
 
 use super::choose::do_choice;
-use super::program::Program;
+use super::source::Source;
 use super::schedule::Scheduler;
 use super::verdict::Verdict;
 use super::view::View;
@@ -39,7 +39,7 @@ pub fn over(view: &View) -> Verdict
 // Turn after turn, as the scheduler names them, until there is something to tell.
 pub fn run_turns<S: Scheduler>(
     s: &mut S,
-    program: &Program,
+    source: &Source,
     z: Sizes,
     lanes: &mut [u32],
     cells: &mut [u32],
@@ -48,16 +48,16 @@ pub fn run_turns<S: Scheduler>(
 ) -> Verdict
     requires lent { Lent z lanes.old cells.old }
     requires watch { 6 * cells_room z ≤ length marks.old }
-    requires few { program.now.lines ≤ 65536 }
+    requires few { source.now.lines ≤ 65536 }
     requires most { granted ≤ 1099511627776 }
-    requires sets { (ns : List (List ℕ)) × (at : ℕ → Body) × SetsOut S.Scheduler.knows s.old ns program.now.text.now program.now.steps.now program.now.lines z at lanes.old cells.old marks.old }
-    ensures { (ns : List (List ℕ)) (at : ℕ → Body) → SetsOut S.Scheduler.knows s.old ns program.now.text.now program.now.steps.now program.now.lines z at lanes.old cells.old marks.old → (ts : List Turn) × Shows granted z.lanes (grid_of z at lanes.old cells.old) ts (told_of result (field_of z cells.new)) }
+    requires sets { (ns : List (List ℕ)) × (at : ℕ → Body) × SetsOut S.Scheduler.knows s.old ns source.now.text.now source.now.steps.now source.now.lines z at lanes.old cells.old marks.old }
+    ensures { (ns : List (List ℕ)) (at : ℕ → Body) → SetsOut S.Scheduler.knows s.old ns source.now.text.now source.now.steps.now source.now.lines z at lanes.old cells.old marks.old → (ts : List Turn) × Shows granted z.lanes (grid_of z at lanes.old cells.old) ts (told_of result (field_of z cells.new)) }
 {
     let mut done = 0;
     loop {
         let view = View {
-            steps: program.steps,
-            lines: program.lines,
+            steps: source.steps,
+            lines: source.lines,
             sizes: z,
             lanes: &*lanes,
         };
@@ -65,7 +65,7 @@ pub fn run_turns<S: Scheduler>(
             return over(&view);
         };
         match do_choice(
-            program, z, lanes, cells, marks, granted, done, choice,
+            source, z, lanes, cells, marks, granted, done, choice,
         ) {
             Ok(k) => done = k,
             Err(verdict) => return verdict,

@@ -112,6 +112,7 @@ pub fn read_turns(heap: Global, bytes: &[u8]) -> Result<Vec<Written>, Fault>
 {
     let mut turns = Vec::new(heap);
     let mut at = 0;
+    // A loop: each line tells where the next begins.
     while at < bytes.len() {
         let Some(reading) = read_turn(bytes, at) else {
             return Err(Fault::NoTurn {

@@ -3,7 +3,7 @@ use Rattle.machine.proofs.row.do_row.Goals as goal
 
 pub returns : goal.returns
 returns c =
-    let z = c.args.z in let words = c.args.program.now.steps.now in let text = c.args.program.now.text.now in let n = c.args.program.now.lines in
+    let z = c.args.z in let words = c.args.source.now.steps.now in let text = c.args.source.now.text.now in let n = c.args.source.now.lines in
     let ls = c.args.lanes.now in let cs = c.args.cells.now in let ks = c.args.marks.now in
     let g = c.args.row.group in let start = c.args.row.start in let mask = c.args.row.mask in
     let low = c.in-Some.low in let line = c.line_of-line.result in let entry = c.settle_row-entry.result in let ls' = c.settle_row-entry.new.lanes in

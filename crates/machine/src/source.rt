@@ -1,0 +1,9 @@
+// What is run.
+
+// A text, and the steps in words that stand for it: so many entries, and what is behind them.
+#[derive(Clone, Copy)]
+pub struct Source<'a> {
+    pub text: &'a [u8],
+    pub steps: &'a [u32],
+    pub lines: usize,
+}

@@ -14,7 +14,6 @@ use crate::load::load;
 use crate::memory::Memory;
 use machine::run::run_turns;
 use machine::schedule::Scheduler;
-use machine::source::Source;
 use machine::verdict::Verdict;
 use store::Sizes;
 
@@ -39,6 +38,7 @@ pub fn judge<S: Scheduler>(
     let lines = load(text, bytes, z, lent);
     // Taken out first: it can't be read from behind `lent` while others are written there.
     let steps = &mut *lent.steps;
-    let source = Source { text, steps, lines };
-    run_turns(s, &source, z, lent.lanes, lent.cells, lent.marks, granted)
+    run_turns(
+        s, text, steps, lines, z, lent.lanes, lent.cells, lent.marks, granted,
+    )
 }

@@ -9,10 +9,10 @@ ghost use Rattle.machine.specs.Schedule.{CanDo};
 ghost use Rattle.machine.specs.Verdict.{StandsAt, Moved, MayGo};
 
 use super::exec::Active;
-use super::source::Source;
 use super::release::release;
 use super::row::do_row;
 use super::schedule::Choice;
+use super::source::Source;
 use super::verdict::Verdict;
 use masks::count;
 use store::Sizes;

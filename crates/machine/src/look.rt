@@ -38,9 +38,9 @@ pub fn stance_at(steps: &[u32], lines: usize, entry: usize) -> Stance
     stance_by(decode(steps, lines, here))
 }
 
-impl<'a> View<'a> {
+impl View<'_> {
     // What lane l of group g can do.
-    fn stance_of(&self, g: usize, l: usize) -> Stance
+    pub fn stance_of(&self, g: usize, l: usize) -> Stance
         requires group { g < self.now.sizes.groups }
         requires lane { l < self.now.sizes.lanes }
         ensures { (at : ℕ → Body) → RunsIn self.now at → StanceIs (at (line_at self.now.sizes self.now.lanes.now g l)) result }
@@ -64,7 +64,7 @@ impl<'a> View<'a> {
     }
 
     // Lane l of group g waits at a barrier.
-    pub fn waits(&self, g: usize, l: usize) -> bool
+    pub(crate) fn waits(&self, g: usize, l: usize) -> bool
         requires group { g < self.now.sizes.groups }
         requires lane { l < self.now.sizes.lanes }
         ensures { (at : ℕ → Body) → RunsIn self.now at → result ≡ at_barrier (at (line_at self.now.sizes self.now.lanes.now g l)) }

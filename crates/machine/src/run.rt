@@ -10,8 +10,8 @@ ghost use Rattle.machine.specs.Line.{RunsIn, grid_in};
 ghost use Rattle.machine.specs.Verdict.{Over, Waiting, SetsOut, told_of};
 
 use super::choose::do_choice;
-use super::source::Source;
 use super::schedule::Scheduler;
+use super::source::Source;
 use super::verdict::Verdict;
 use super::view::View;
 use store::Sizes;
@@ -39,7 +39,9 @@ pub fn over(view: &View) -> Verdict
 // Turn after turn, as the scheduler names them, until there is something to tell.
 pub fn run_turns<S: Scheduler>(
     s: &mut S,
-    source: &Source,
+    text: &[u8],
+    steps: &[u32],
+    lines: usize,
     z: Sizes,
     lanes: &mut [u32],
     cells: &mut [u32],
@@ -48,25 +50,24 @@ pub fn run_turns<S: Scheduler>(
 ) -> Verdict
     requires lent { Lent z lanes.old cells.old }
     requires watch { 6 * cells_room z ≤ length marks.old }
-    requires few { source.now.lines ≤ 65536 }
+    requires few { lines ≤ 65536 }
     requires most { granted ≤ 1099511627776 }
-    requires sets { (ns : List (List ℕ)) × (at : ℕ → Body) × SetsOut S.Scheduler.knows s.old ns source.now.text.now source.now.steps.now source.now.lines z at lanes.old cells.old marks.old }
-    ensures { (ns : List (List ℕ)) (at : ℕ → Body) → SetsOut S.Scheduler.knows s.old ns source.now.text.now source.now.steps.now source.now.lines z at lanes.old cells.old marks.old → (ts : List Turn) × Shows granted z.lanes (grid_of z at lanes.old cells.old) ts (told_of result (field_of z cells.new)) }
+    requires sets { (ns : List (List ℕ)) × (at : ℕ → Body) × SetsOut S.Scheduler.knows s.old ns text.now steps.now lines z at lanes.old cells.old marks.old }
+    ensures { (ns : List (List ℕ)) (at : ℕ → Body) → SetsOut S.Scheduler.knows s.old ns text.now steps.now lines z at lanes.old cells.old marks.old → (ts : List Turn) × Shows granted z.lanes (grid_of z at lanes.old cells.old) ts (told_of result (field_of z cells.new)) }
 {
+    let source = Source { text, steps, lines };
     let mut done = 0;
     loop {
         let view = View {
-            steps: source.steps,
-            lines: source.lines,
+            steps,
+            lines,
             sizes: z,
             lanes: &*lanes,
         };
         let Some(choice) = s.next(&view) else {
             return over(&view);
         };
-        match do_choice(
-            source, z, lanes, cells, marks, granted, done, choice,
-        ) {
+        match do_choice(&source, z, lanes, cells, marks, granted, done, choice) {
             Ok(k) => done = k,
             Err(verdict) => return verdict,
         }

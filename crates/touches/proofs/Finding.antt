@@ -2,6 +2,7 @@
 use Rattle.std.proofs.Common.{◌≡◌, ℕ, ◌≤◌, Bool, true, false, cond, ◌&&◌, ◌||◌, eqb, ◌⊎◌, List, Some, None, Option, refl, inl, inr, arith}
 use Rattle.std.proofs.lemmas.Bool.{cond_both, cases_Bool}
 use Rattle.std.proofs.lemmas.Bool.Decides.{nat_tests}
+use Rattle.std.specs.Option.{option_or}
 use Rattle.lanes.specs.Grid.{Mark}
 use Rattle.lanes.specs.Race.{race, unparted}
 use Rattle.touches.specs.declared.Who.{Who}
@@ -9,7 +10,7 @@ use Rattle.touches.specs.declared.Found.{Found}
 use Rattle.touches.specs.declared.Held.{Held}
 use Rattle.touches.specs.declared.Readers.{Readers}
 use Rattle.touches.specs.declared.Readers.TheVariants.{Nobody, One, Two}
-use Rattle.touches.specs.Code.{apart_of, named, reader_of, writer_of, or_else, look_of}
+use Rattle.touches.specs.Code.{apart_of, named, raced_of, reader_of, writer_of, look_of}
 use Rattle.touches.specs.Kept.{mark_of, Among, Was, Under, WriterKept, ReadersKept, Keeps, Rising, AnswersFor}
 
 -- one kind of the earlier touches is answered for
@@ -54,7 +55,7 @@ module _ (w c : ℕ) (ms : List Mark) (t : Who) (y : Bool) (rise : Rising ms (ma
   reader-part Nobody e kept = λ m was. absurd (kept m was)
   reader-part (One a) e kept = one-part a false e kept.0 kept.1
   reader-part (Two a b) e kept =
-      cond_both (apart_of a t) (named a false) (cond (apart_of b t) (named b false) None) (Part w c ms false (mark_of w c t y)) (λ h. (kept.0, hits w c a t false y e h))
+      cond_both (apart_of a t) (named a false) None (λ o. Part w c ms false (mark_of w c t y) (option_or o (raced_of b t false))) (λ h. (kept.0, hits w c a t false y e h))
       (λ h. cond_both (apart_of b t) (named b false) None (Part w c ms false (mark_of w c t y)) (λ k. (kept.1, hits w c b t false y e k))
       (λ k m was. elim kept.2 [
         | inl ne ↦ absurd (readers-apart a b t h k ne)
@@ -66,7 +67,7 @@ module _ (w c : ℕ) (ms : List Mark) (t : Who) (y : Bool) (rise : Rising ms (ma
   unfolding race unparted
   quiet-part e = λ m was. let p = was.kind in grind (arith, nat_tests)
 
-  both-parts : (a b : Option Found) → Part w c ms true (mark_of w c t y) a → Part w c ms false (mark_of w c t y) b → AnswersFor w c ms (mark_of w c t y) (or_else a b)
+  both-parts : (a b : Option Found) → Part w c ms true (mark_of w c t y) a → Part w c ms false (mark_of w c t y) b → AnswersFor w c ms (mark_of w c t y) (option_or a b)
   both-parts (Some f) b p q = p
   both-parts None (Some f) p q = q
   both-parts None None p q = λ m i. by m i (cases_Bool (eqb m.touch.where_is w && eqb m.touch.cell c)) (cases_Bool m.touch.wrote)

@@ -1,6 +1,6 @@
 -- One cell's touch in the slice of all.
-use Rattle.std.proofs.Common.{◌≡◌, ℕ, ◌+◌, ◌*◌, ◌<◌, Bool, ◌⊎◌, List, [], length, get_or, Some, None, Option, sym, refl, ◌∙◌, subst, inl, inr, arith}
-use Rattle.std.proofs.lemmas.Bool.{cases_eq}
+use Rattle.std.proofs.Common.{◌≡◌, ℕ, ◌+◌, ◌*◌, ◌<◌, Bool, ◌⊎◌, List, [], length, get_or, Some, None, Option, is_some, true, false, sym, refl, ◌∙◌, subst, inl, inr, arith}
+use Rattle.std.proofs.lemmas.Bool.{cases_eq, true≢false, false≢true}
 use Rattle.lanes.specs.Grid.{Mark}
 use Rattle.touches.specs.declared.Who.{Who}
 use Rattle.touches.specs.declared.Held.{Held}
@@ -30,9 +30,6 @@ pub kept_more : (y : Layout) (w c i : ℕ) (ms : List Mark) (ks : List ℕ) (a :
 unfolding AllKept
 kept_more y w c i ms ks a wrote k all rise none v e there = by (cases_eq (y.spot v e) i)
   where
-    now-held : List ℕ
-    now-held = held_put ks i (held_of ks i) a wrote
-
     small : Small a
     small = record { group = k.group; lane = k.lane; line = k.line }
 
@@ -58,16 +55,18 @@ unfolding AllKept Among
 none_kept y ks z w c there = rw (none-held ks z (y.spot w c)) (record { writer = λ m was. was.among; readers = λ m was. was.among })
 
 -- the two ways of a touch, as the code takes them
-pub touch-none : (y : Layout) (w c i : ℕ) (ms : List Mark) (ks ks' : List ℕ) (k : Held) (a : Who) (wrote : Bool) → k ≡ held_of ks i → look_of k a wrote ≡ None → ks' ≡ held_put ks i k a wrote →
-    Keepable y w c i a ks → AllKept y ms ks → Rising ms (mark_of w c a wrote) → Touched y w c ms ks ks' a wrote None
-touch-none y w c i ms ks ks' k a wrote h none e ok all rise =
-    let none' : look_of (held_of ks i) a wrote ≡ None = rw (sym h) none in
+pub touch-none : (y : Layout) (w c i : ℕ) (ms : List Mark) (ks ks' : List ℕ) (k : Held) (a : Who) (wrote : Bool) (r : Option Found) → is_some r ≡ false → k ≡ held_of ks i → r ≡ look_of k a wrote → ks' ≡ held_put ks i k a wrote →
+    Keepable y w c i a ks → AllKept y ms ks → Rising ms (mark_of w c a wrote) → Touched y w c ms ks ks' a wrote r
+touch-none y w c i ms ks ks' k a wrote (Some f) is h look e ok all rise = absurd (true≢false is)
+touch-none y w c i ms ks ks' k a wrote None is h look e ok all rise =
+    let none : look_of (held_of ks i) a wrote ≡ None = rw (sym h) (sym look) in
     let P : Option Found → Type 0 = AnswersFor w c ms (mark_of w c a wrote) in
-    (subst P none' (answers y w c i ms ks a wrote ok all rise), rw (e, h) (kept_more y w c i ms ks a wrote ok all rise none'))
+    (subst P none (answers y w c i ms ks a wrote ok all rise), rw (e, h) (kept_more y w c i ms ks a wrote ok all rise none))
 
-pub touch-some : (y : Layout) (w c i : ℕ) (ms : List Mark) (ks : List ℕ) (k : Held) (a : Who) (wrote : Bool) (f : Found) → k ≡ held_of ks i → look_of k a wrote ≡ Some f →
-    Keepable y w c i a ks → AllKept y ms ks → Rising ms (mark_of w c a wrote) → Touched y w c ms ks ks a wrote (Some f)
-touch-some y w c i ms ks k a wrote f h some ok all rise =
-    let some' : look_of (held_of ks i) a wrote ≡ Some f = rw (sym h) some in
+pub touch-some : (y : Layout) (w c i : ℕ) (ms : List Mark) (ks : List ℕ) (k : Held) (a : Who) (wrote : Bool) (r : Option Found) → is_some r ≡ true → k ≡ held_of ks i → r ≡ look_of k a wrote →
+    Keepable y w c i a ks → AllKept y ms ks → Rising ms (mark_of w c a wrote) → Touched y w c ms ks ks a wrote r
+touch-some y w c i ms ks k a wrote None is h look ok all rise = absurd (false≢true is)
+touch-some y w c i ms ks k a wrote (Some f) is h look ok all rise =
+    let some : look_of (held_of ks i) a wrote ≡ Some f = rw (sym h) (sym look) in
     let P : Option Found → Type 0 = AnswersFor w c ms (mark_of w c a wrote) in
-    let r = subst P some' (answers y w c i ms ks a wrote ok all rise) in (r.0, r.1, refl)
+    let r = subst P some (answers y w c i ms ks a wrote ok all rise) in (r.0, r.1, refl)

@@ -95,9 +95,6 @@ joined_small (Two a b) t s u =
     cond_both (not (eqb a.group b.group)) _ _ SmallReaders (λ _. s)
     (λ _. cond_both (not (eqb a.group t.group)) _ _ SmallReaders (λ _. (s.0, u)) (λ _. cond_both (ltb a.phase t.phase) _ _ SmallReaders (λ _. (u, tt)) (λ _. s)))
 
-held-as : (k : Held) (o : Option Who) (r : Readers) → o ≡ k.writer → r ≡ k.readers → ◌≡◌ {A = Held} (record { writer = o; readers = r }) k
-held-as k o r p q = rw (p, q)
-
 wrote-same : (ks : List ℕ) (i : ℕ) (t : Who) → 6 * i + 5 < length ks → Small t →
     held_of (entry_put ks (3 * i) (Some t)) i ≡ record { writer = Some t; readers = (held_of ks i).readers }
 unfolding held_of

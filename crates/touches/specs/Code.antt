@@ -1,5 +1,6 @@
 -- What the functions of this crate compute, each as a definition. The promises of the public functions are in Kept and Whole.
 use Rattle.std.specs.Prelude.{ℕ, ◌+◌, ◌-◌, ◌*◌, ◌/◌, ◌%◌, Bool, true, false, cond, not, ◌&&◌, ◌||◌, List, Some, None, Option, ◌==◌, nat_lt, slice_index, slice_set}
+use Rattle.std.specs.Option.{option_or}
 use Rattle.touches.specs.declared.Who.{Who}
 use Rattle.touches.specs.declared.Found.{Found}
 use Rattle.touches.specs.declared.Held.{Held}
@@ -13,21 +14,20 @@ apart_of a b = not (a.group == b.group) || (a.phase == b.phase && not (a.lane ==
 abbrev pub named : Who → Bool → Option Found
 named a w = Some (record { who = a; wrote = w })
 
+abbrev pub raced_of : Who → Who → Bool → Option Found
+raced_of a t w = cond (apart_of a t) (named a w) None
+
 abbrev pub reader_of : Readers → Who → Option Found
 reader_of Nobody t = None
-reader_of (One a) t = cond (apart_of a t) (named a false) None
-reader_of (Two a b) t = cond (apart_of a t) (named a false) (cond (apart_of b t) (named b false) None)
+reader_of (One a) t = raced_of a t false
+reader_of (Two a b) t = option_or (raced_of a t false) (raced_of b t false)
 
 abbrev pub writer_of : Option Who → Who → Option Found
 writer_of None t = None
-writer_of (Some a) t = cond (apart_of a t) (named a true) None
-
-abbrev pub or_else : Option Found → Option Found → Option Found
-or_else None r = r
-or_else (Some f) r = Some f
+writer_of (Some a) t = raced_of a t true
 
 abbrev pub look_of : Held → Who → Bool → Option Found
-look_of k t w = or_else (writer_of k.writer t) (cond w (reader_of k.readers t) None)
+look_of k t w = option_or (writer_of k.writer t) (cond w (reader_of k.readers t) None)
 
 abbrev pub joined_of : Readers → Who → Readers
 joined_of Nobody t = One t

@@ -1,15 +1,15 @@
 // What is kept of the touches of all cells: for each the last writer and up to two readers, in six words of a lent slice.
 // From that, whether the next touch races with an earlier one.
-#![tactic(auto)]
+#![tactic(auto, unfolding(crate::specs::Code::packed_of, crate::specs::Code::unpacked_of, crate::specs::Code::entry_of, crate::specs::Code::entry_put, crate::specs::Code::held_of, crate::specs::Code::readers_put, crate::specs::Code::held_put))]
 
 ghost use Rattle.std.specs.Prelude.{◌≡◌, ℕ, ◌+◌, ◌*◌, ◌<◌, ◌≤◌, Bool, List, [], ◌∷◌, length, Some, None};
 ghost use Rattle.lanes.specs.Grid.{Mark};
 ghost use Rattle.touches.specs.Kept.{mark_of, Keeps, Rising, AnswersFor};
-ghost use Rattle.touches.specs.Code.{apart_of, look_of, joined_of, packed_of, unpacked_of, entry_of, entry_put, first_of, second_of, readers_by, held_of, readers_put, held_put};
+ghost use Rattle.touches.specs.Code.{apart_of, raced_of, reader_of, look_of, joined_of, packed_of, unpacked_of, entry_of, entry_put, first_of, second_of, readers_by, held_of, readers_put, held_put};
 ghost use Rattle.touches.specs.Whole.{Layout, AllKept, Keepable, Touched};
 
 // Who touched: the line is that of the program's text, by which a race is explained.
-#[derive(Clone, Copy)]
+#[derive(Clone, Copy, Debug, PartialEq, Eq)]
 pub struct Who {
     pub group: u32,
     pub lane: u32,
@@ -18,21 +18,21 @@ pub struct Who {
 }
 
 // Two are of different groups if ever two groups have read, else different lanes of the latest phase.
-#[derive(Clone, Copy)]
+#[derive(Clone, Copy, Debug, PartialEq, Eq)]
 pub enum Readers {
     Nobody,
     One(Who),
     Two(Who, Who),
 }
 
-#[derive(Clone, Copy)]
+#[derive(Clone, Copy, Debug, PartialEq, Eq)]
 pub struct Held {
     pub writer: Option<Who>,
     pub readers: Readers,
 }
 
 // An earlier touch that races.
-#[derive(Clone, Copy)]
+#[derive(Clone, Copy, Debug, PartialEq, Eq)]
 pub struct Found {
     pub who: Who,
     pub wrote: bool,
@@ -44,49 +44,35 @@ fn apart(a: Who, b: Who) -> bool
     a.group != b.group || (a.phase == b.phase && a.lane != b.lane)
 }
 
+// An earlier touch by `a`, if this one races with it.
+fn raced(a: Who, t: Who, wrote: bool) -> Option<Found>
+    ensures { result ≡ raced_of a t wrote }
+{
+    apart(a, t).then_some(Found { who: a, wrote })
+}
+
+// A reader with which a write races, if there is one.
+fn raced_reader(r: Readers, t: Who) -> Option<Found>
+    ensures { result ≡ reader_of r t }
+{
+    match r {
+        Readers::Nobody => None,
+        Readers::One(a) => raced(a, t, false),
+        Readers::Two(a, b) => raced(a, t, false).or(raced(b, t, false)),
+    }
+}
+
 // An earlier touch with which this one races, if there is one. Two reads never race.
 fn look(k: Held, t: Who, wrote: bool) -> Option<Found>
     ensures { result ≡ look_of k t wrote }
 {
-    if let Some(a) = k.writer {
-        if apart(a, t) {
-            return Some(Found {
-                who: a,
-                wrote: true,
-            });
-        }
-    }
-    if !wrote {
-        return None;
-    }
-    match k.readers {
-        Readers::Nobody => None,
-        Readers::One(a) => {
-            if apart(a, t) {
-                Some(Found {
-                    who: a,
-                    wrote: false,
-                })
-            } else {
-                None
-            }
-        }
-        Readers::Two(a, b) => {
-            if apart(a, t) {
-                Some(Found {
-                    who: a,
-                    wrote: false,
-                })
-            } else if apart(b, t) {
-                Some(Found {
-                    who: b,
-                    wrote: false,
-                })
-            } else {
-                None
-            }
-        }
-    }
+    let writer = k.writer.and_then(|a| raced(a, t, true));
+    let reader = if wrote {
+        raced_reader(k.readers, t)
+    } else {
+        None
+    };
+    writer.or(reader)
 }
 
 // The readers with one more. A reader of a second group takes a place for good; a later phase takes the place of an earlier one.
@@ -129,10 +115,7 @@ fn packed(a: Who) -> u64
 fn unpacked(phase: u64, word: u64) -> Option<Who>
     ensures { result ≡ unpacked_of phase word }
 {
-    if word == 0 {
-        return None;
-    }
-    let p = word - 1;
+    let p = word.checked_sub(1)?;
     let group = (p % 1024) as u32;
     let lane = (p / 1024 % 1024) as u32;
     let line = (p / 1048576 % 4294967296) as u32;
@@ -155,16 +138,9 @@ fn put_entry(kept: &mut [u64], j: usize, who: Option<Who>)
     requires { 2 * j + 1 < length kept.old }
     ensures { kept.new ≡ entry_put kept.old j who }
 {
-    match who {
-        Some(a) => {
-            kept[2 * j] = a.phase;
-            kept[2 * j + 1] = packed(a);
-        }
-        None => {
-            kept[2 * j] = 0;
-            kept[2 * j + 1] = 0;
-        }
-    }
+    let (phase, word) = who.map_or((0, 0), |a| (a.phase, packed(a)));
+    kept[2 * j] = phase;
+    kept[2 * j + 1] = word;
 }
 
 fn readers_from(a: Option<Who>, b: Option<Who>) -> Readers
@@ -182,8 +158,7 @@ fn first(r: Readers) -> Option<Who>
 {
     match r {
         Readers::Nobody => None,
-        Readers::One(a) => Some(a),
-        Readers::Two(a, _) => Some(a),
+        Readers::One(a) | Readers::Two(a, _) => Some(a),
     }
 }
 
@@ -191,8 +166,7 @@ fn second(r: Readers) -> Option<Who>
     ensures { result ≡ second_of r }
 {
     match r {
-        Readers::Nobody => None,
-        Readers::One(_) => None,
+        Readers::Nobody | Readers::One(_) => None,
         Readers::Two(_, b) => Some(b),
     }
 }
@@ -238,20 +212,16 @@ pub fn touch(kept: &mut [u64], i: usize, who: Who, wrote: bool) -> Option<Found>
         return None;
     }
     let held = held_at(kept, i);
-    match look(held, who, wrote) {
-        Some(found) => Some(found),
-        None => {
-            keep(kept, i, held, who, wrote);
-            None
-        }
+    let found = look(held, who, wrote);
+    if found.is_none() {
+        keep(kept, i, held, who, wrote);
     }
+    found
 }
 
 // No touch is kept, whatever the words were.
 pub fn clear(words: &mut [u64])
     ensures { (y : Layout) → AllKept y [] words.new }
 {
-    for word in words.iter_mut() {
-        *word = 0;
-    }
+    words.fill(0);
 }

@@ -4,20 +4,14 @@ ghost use Rattle.masks.specs.Masks.{on};
 ghost use Rattle.masks.specs.Spans.{Spanned};
 
 use crate::lowest;
-
-// Lanes from .. to of a row.
-#[derive(Clone, Copy, Debug, PartialEq, Eq)]
-pub struct Span {
-    pub from: usize,
-    pub to: usize,
-}
+use std::ops::Range;
 
 // The first span of lanes in the mask at lane i or behind it, if there is one.
-pub fn span_at(mask: u32, i: usize) -> Option<Span>
+pub fn span_at(mask: u32, i: usize) -> Option<Range<usize>>
     requires { i < 32 }
     ensures { MatchOption result ((j : ℕ) → i ≤ j → on mask j ≡ false) (λ r. Spanned mask i r) }
 {
-    let from = i + lowest(mask >> i)?;
-    let to = lowest(!(mask >> from)).map_or(32, |n| from + n);
-    Some(Span { from, to })
+    let start = i + lowest(mask >> i)?;
+    let end = lowest(!(mask >> start)).map_or(32, |n| start + n);
+    Some(start..end)
 }

@@ -3,7 +3,7 @@ ghost use Rattle.values.specs.Ops.{Applied, AppliedBy};
 
 use crate::ops::{Op, difference, less, product, quotient, remainder, same, sum};
 
-// It is compiled for each operator by itself, so that the compiler takes several numbers at a time.
+// x becomes f of x and y, number by number, as far as both go.
 fn each<F: Fn(u32, u32) -> u32>(x: &mut [u32], y: &[u32], f: F)
     requires { F.IsAlwaysCallable f }
     ensures { AppliedBy (F.post f) x.old y.now x.new }
@@ -14,6 +14,7 @@ fn each<F: Fn(u32, u32) -> u32>(x: &mut [u32], y: &[u32], f: F)
     }
 }
 
+// A call for each operator, which is compiled by itself and takes several numbers at a time: with this match inside the loop it takes one.
 pub fn apply_row(op: Op, x: &mut [u32], y: &[u32])
     ensures { Applied op x.old y.now x.new }
 {

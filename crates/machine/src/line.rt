@@ -89,7 +89,7 @@ fn values_of(text: &[u8], at: u32, z: Sizes, lanes: &[u32], row: Active, out: &m
         stride: many,
         owns,
     };
-    eval_row(text, at as usize, place, &mut out[..width]);
+    eval_row(text, at as usize, &place, &mut out[..width]);
 }
 
 // The second numbers, which only a write has.

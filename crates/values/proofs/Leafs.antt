@@ -8,10 +8,6 @@ use Rattle.values.specs.declared.row.Row.{Row}
 use Rattle.values.specs.Worth.{LeafIs}
 use Rattle.values.specs.Rows.{Values, LeafWorth}
 
--- Numbers that are all one.
-pub filled : (xs : List ℕ) (n v : ℕ) → xs ≡ replicate n v → (i : ℕ) → i < length xs → get_or xs i 0 ≡ v
-filled xs n v e i h = rw e (get_or-replicate n i v 0 (omega (arith, ap length e, length-replicate n v)))
-
 module _ (leaf : Leaf) (r : Row) (out : List ℕ) where
   pub worth-fixed : (a : ℕ) → leaf ≡ Fixed a → ((i : ℕ) → i < length out → get_or out i 0 ≡ a) → LeafWorth leaf r out
   unfolding Values value

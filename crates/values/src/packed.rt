@@ -67,9 +67,9 @@ pub fn compact(text: &[u8], at: usize, words: &mut [u32], from: usize, to: usize
 }
 
 // The value of the expression that stands at a place of the words, for each lane of a row, and the place behind it.
-pub fn eval_words(words: &[u32], at: usize, row: Row, out: &mut [u32]) -> usize
-    requires { length out.old ≡ row.width }
-    ensures { Unpacked words.now at row.entry out.new result }
+pub fn eval_words(words: &[u32], at: usize, row: &Row, out: &mut [u32]) -> usize
+    requires { length out.old ≡ row.now.width }
+    ensures { Unpacked words.now at row.now out.new result }
 {
     if at >= words.len() {
         return at;
@@ -82,7 +82,7 @@ pub fn eval_words(words: &[u32], at: usize, row: Row, out: &mut [u32]) -> usize
         Some(Item::Apply(op)) => {
             let mid = eval_words(words, at + 1, row, out);
             let mut room = [0; 32];
-            let right = &mut room[..row.width];
+            let right = &mut room[..out.len()];
             let end = eval_words(words, mid, row, right);
             apply_row(op, out, right);
             end

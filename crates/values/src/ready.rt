@@ -19,9 +19,9 @@ pub fn make_ready(text: &[u8], at: usize, words: &mut [u32], from: usize, to: us
 }
 
 // The value of the expression that stands at a byte of the text, for each lane of a row.
-pub fn eval_at(text: &[u8], at: usize, words: &[u32], from: usize, row: Row, out: &mut [u32])
-    requires { length out.old ≡ row.width }
-    ensures { Ready text.now at words.now from → Worth text.now at row.entry out.new }
+pub fn eval_at(text: &[u8], at: usize, words: &[u32], from: usize, row: &Row, out: &mut [u32])
+    requires { length out.old ≡ row.now.width }
+    ensures { Ready text.now at words.now from → Worth text.now at row.now out.new }
 {
     if from < words.len() && words[from] != 0 {
         eval_words(words, from, row, out);

@@ -12,7 +12,8 @@ use super::outcome::Stopped;
 use masks::is_on;
 use store::{Sizes, Todo, perform, phase_of};
 
-// Lanes of one row of a group: bit i of the mask is lane `start + i`.
+// Lanes of one row of a group: bit i of the mask is lane `start + i`. Whether they are there depends on the sizes, which are lent with the
+// lanes, so that is asked where both are at hand (`RowIn`).
 #[derive(Clone, Copy, PartialEq, Eq, Debug)]
 pub struct Active {
     pub group: usize,

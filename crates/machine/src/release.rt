@@ -1,4 +1,4 @@
-// A group goes on.
+// A group goes on. Its lanes are written, so a View, which is shared, can't bring that they are there.
 ghost use Rattle.std.specs.Prelude.{◌≡◌, ℕ, suc, ◌+◌, ◌<◌, ◌≤◌, true, List, length};
 ghost use Rattle.lanes.specs.Syntax.{Body};
 ghost use Rattle.lanes.specs.Grid.{release as goes_on, can, turn};

@@ -41,7 +41,7 @@ field-copied z from k m xs ys bs same h e n =
 
 pub loads : (ns : List (List ℕ)) (p : Program) (z : Sizes) (text bytes steps after ls cs ls' cs' ks : List ℕ) (r : ℕ) → For ns p z text steps → Compiled ns p text steps after r → Started z ls cs ls' cs' →
     field_of z cs ≡ cells_read bytes z.field → ((y : Layout) → AllKept y [] ks) → Loads ns p z text bytes after ls' cs' ks r
-unfolding Begun Distinct line_at
+unfolding Begun line_at
 loads ns p z text bytes steps after ls cs ls' cs' ks r f c s e k = record {
   loaded = record { names = spelled-names ns p text f.taken.spelled f.taken.few_names; distinct = f.taken.distinct; owned = sym f.taken.spelled.owned ∙ f.owns; coded = c.coded };
   few = omega (arith, c.few, f.taken.few_lines);

@@ -131,7 +131,6 @@ module _ (ns : List (List ℕ)) where
       ]
 
   pub taken-names : (p : Program) (text : List ℕ) → Taken ns p text → Names ns text
-  unfolding Distinct
   taken-names p text t =
       let s = t.spelled in
       record {

@@ -6,7 +6,6 @@ pub mod Runs
 pub mod Begins
 pub mod Walks
 pub mod Atoms
-pub mod Linewalks
 pub mod Complete
 pub mod Spelled
 pub mod Linedone

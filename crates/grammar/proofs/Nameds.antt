@@ -24,7 +24,6 @@ place-named (n ∷ ns) u k e =
     ]
 
 pub named-place : (ns : List (List ℕ)) → Distinct ns → (k : ℕ) (u : List ℕ) → Named ns k u → place_in ns u ≡ Some k
-unfolding Distinct
 named-place ns d k u n =
     sym (place_is ns u (Some k) (record { there = n.0; is = sym n.1; first = λ j h e. omega (arith, h, d j k (omega (arith, h, n.0)) n.0 (e ∙ n.1)) }))
 

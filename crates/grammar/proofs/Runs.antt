@@ -1,6 +1,6 @@
 -- Runs of bytes from an index on.
-use Rattle.std.proofs.Common.{◌≡◌, ℕ, zero, suc, ◌+◌, ◌-◌, ◌*◌, ◌<◌, ◌≤◌, Bool, true, false, cond, List, [], ◌∷◌, length, get_or, drop, Some, None, SomeIff, sym, refl, ◌∙◌, add-zero, arith, rules, nat_lt}
-use Rattle.std.proofs.lemmas.List.{at_drop_more, get_or-drop}
+use Rattle.std.proofs.Common.{◌≡◌, ℕ, zero, suc, ◌+◌, ◌-◌, ◌*◌, ◌<◌, ◌≤◌, Bool, true, false, cond, List, [], ◌∷◌, get_or, drop, Some, None, SomeIff, sym, refl, ◌∙◌, add-zero, arith, rules, nat_lt}
+use Rattle.std.proofs.lemmas.List.{get_or-drop}
 use Rattle.std.proofs.lemmas.List.Recursion.{same_from_clauses}
 use Rattle.std.proofs.lemmas.Bool.{cond_both}
 use Rattle.std.specs.List.{fold, prefix_len}
@@ -15,11 +15,6 @@ run_step f b bs h = rw h
 pub run-stop : (f : ℕ → Bool) (b : ℕ) (bs : List ℕ) → f b ≡ false → run_of f (b ∷ bs) ≡ 0
 unfolding run_of
 run-stop f b bs h = rw h
-
-pub run_more : (f : ℕ → Bool) (t : List ℕ) (j : ℕ) → j < length t → f (get_or t j 0) ≡ true → j + run_of f (drop j t) ≡ (j + 1) + run_of f (drop (j + 1) t)
-run_more f t j lt h =
-    let e : run_of f (drop j t) ≡ suc (run_of f (drop (j + 1) t)) = at_drop_more (run_of f) t j 0 lt ∙ run_step f (get_or t j 0) (drop (j + 1) t) h in
-    omega (arith, e)
 
 pub run-nil : (f : ℕ → Bool) → run_of f [] ≡ 0
 unfolding run_of

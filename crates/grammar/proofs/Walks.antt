@@ -1,17 +1,19 @@
 -- What the code finds at an index is what the functions of specs/Walk say.
-use Rattle.std.proofs.Common.{◌≡◌, ℕ, zero, suc, ◌+◌, ◌-◌, ◌<◌, ◌≤◌, ◌≢◌, Bool, true, false, cond, ◌⊎◌, List, [], ◌∷◌, length, get_or, take, drop, Some, None, Ok, Err, codes, Decides, Option, sym, refl, ap, ◌∙◌, inl, inr, arith, rules, MatchOption}
+use Rattle.std.proofs.Common.{◌≡◌, ℕ, zero, suc, ◌+◌, ◌-◌, ◌<◌, ◌≤◌, ◌≢◌, Bool, true, false, cond, ◌⊎◌, List, [], ◌∷◌, length, leb, get_or, take, drop, Some, None, Ok, Err, codes, Decides, Option, sym, refl, ap, ◌∙◌, inl, inr, arith, rules, MatchOption}
 use Rattle.std.proofs.lemmas.List.{take-append-drop, length-take-le, length-drop, drop_all, at_drop_more, get_or_past}
 use Rattle.std.proofs.lemmas.Slice.Eq.{compares_Decides}
 use Rattle.std.proofs.lemmas.Bool.Decides.{nat_tests}
-use Rattle.std.proofs.lemmas.Bool.{le-leb, lt-leb, eq-eqb, ne_eqb, cases_lt, cases_Bool, cond-true, cond-false}
+use Rattle.std.proofs.lemmas.Bool.{eq-eqb, ne_eqb, cases_lt, cases_Bool, cond-true, cond-false}
 use Rattle.grammar.specs.Spelling.{letter, word_byte, each_byte, same_bytes}
 use Rattle.grammar.specs.Runs.{run_of, written}
 use Rattle.grammar.specs.Words.{WordEnd}
 use Rattle.grammar.specs.Names.{PlaceOf, FirstAt}
-use Rattle.grammar.specs.Walk.{place_in, key_of, one_more, word_at, word_part, key_at, some_token, stands, same_at, bytes_at}
+use Rattle.grammar.specs.Walk.{place_in, key_of, one_more, short_word_at, word_at, word_part, key_at, and_then, some_token, stands, same_at, bytes_at}
 use Rattle.grammar.specs.declared.refusals.Refusal.TheVariants.{Shape}
 use Rattle.grammar.specs.declared.keywords.Keyword.{Keyword}
 use Rattle.grammar.specs.declared.keywords.Keyword.TheVariants.{Own, Cells, Cell, Field, Barrier, If, Else, End, While, Lane, Group, Lanes}
+use Rattle.grammar.proofs.Atoms.{then-err, then_ok}
+use Rattle.grammar.specs.declared.refusals.Refusal.{Refusal}
 use Rattle.grammar.proofs.Runs.{run_step, run-stop, run-nil, run_is}
 use Rattle.grammar.proofs.Scanned.{byte_at, at_part, behind-part, word-ends}
 use Rattle.std.specs.List.{prefix_len, zip}
@@ -149,28 +151,28 @@ pub place_is : (ns : List (List ℕ)) (u : List ℕ) (r : Option ℕ) → PlaceO
 place_is [] u r p = place-nil u r p
 place_is (n ∷ ns) u r p = place-step n ns u r (place_is ns u) p
 
--- the word at a byte
-module _ (find : List ℕ → Option ℕ) (text : List ℕ) (i : ℕ) where
-  pub word-not : letter (get_or text i 0) ≡ false → Err (Shape i) ≡ word_at find text i
-  unfolding word_at
-  word-not h = rw h refl
-
-  pub word-long : (r : ℕ) → letter (get_or text i 0) ≡ true → WordEnd text i r → 8 < r - i → Err (Shape (i + 8)) ≡ word_at find text i
-  unfolding word_at
-  word-long r h w l = rw (h, le-leb 9 (run_of word_byte (drop i text)) (omega (arith, word_end_run text i r w))) refl
-
-  pub word-is : (r : ℕ) (k : Option Keyword) (o : Option ℕ) → letter (get_or text i 0) ≡ true → WordEnd text i r → r - i ≤ 8
-      → Keyed (take (r - i) (drop i text)) k → o ≡ find (take (r - i) (drop i text)) → some_token k o i r ≡ word_at find text i
-  unfolding word_at
-  word-is r k o h w l q e =
-      let n : r - i ≡ run_of word_byte (drop i text) = omega (arith, word_end_run text i r w) in
-      let m : r ≡ i + run_of word_byte (drop i text) = word_end_run text i r w in
-      let f : o ≡ find (word_part text i) = e ∙ ap (λ m. find (take m (drop i text))) n in
-      let g : k ≡ key_at text i = key_is (take (r - i) (drop i text)) k q ∙ ap (λ m. key_of (take m (drop i text))) n in
-      rw (h, lt-leb 9 (run_of word_byte (drop i text)) (omega arith), ← g, ← f, ← m) refl
-
 pub key_here : (text : List ℕ) (i r : ℕ) (k : Option Keyword) → WordEnd text i r → Keyed (take (r - i) (drop i text)) k → k ≡ key_at text i
 key_here text i r k w q = key_is (take (r - i) (drop i text)) k q ∙ ap (λ m. key_of (take m (drop i text))) (omega (arith, word_end_run text i r w))
+
+-- the word at a byte
+module _ (text : List ℕ) (i : ℕ) where
+  pub word_by : (find : List ℕ → Option ℕ) → word_at find text i ≡ and_then (short_word_at text i) (λ r. some_token (key_at text i) (find (word_part text i)) i r)
+  unfolding word_at short_word_at
+  word_by find =
+      elim (cases_Bool (letter (get_or text i 0))) [
+        | inl p ↦ elim (cases_Bool (leb 9 (run_of word_byte (drop i text)))) [ inl q ↦ rw (p, q) refl | inr q ↦ rw (p, q) refl ]
+        | inr p ↦ rw p refl
+      ]
+
+  pub word_err : (find : List ℕ → Option ℕ) (e : Refusal) → Err e ≡ short_word_at text i → Err e ≡ word_at find text i
+  word_err find e h = rw (word_by find) (then-err (short_word_at text i) _ e h)
+
+  pub word_is : (find : List ℕ → Option ℕ) (r : ℕ) (k : Option Keyword) (o : Option ℕ) → Ok r ≡ short_word_at text i → WordEnd text i r
+      → Keyed (take (r - i) (drop i text)) k → o ≡ find (take (r - i) (drop i text)) → some_token k o i r ≡ word_at find text i
+  word_is find r k o h w q e =
+      let g : k ≡ key_at text i = key_here text i r k w q in
+      let f : o ≡ find (word_part text i) = e ∙ ap (λ m. find (take m (drop i text))) (omega (arith, word_end_run text i r w)) in
+      rw (g, f, word_by find) (then_ok (short_word_at text i) (λ m. some_token (key_at text i) (find (word_part text i)) i m) r h)
 
 -- wanted bytes
 pub bytes-more : (text : List ℕ) (bs : List ℕ) (b i : ℕ) → get_or text i 0 ≡ b → (b ≡ 0 → ⊥) → bytes_at text (b ∷ bs) i ≡ bytes_at text bs (i + 1)

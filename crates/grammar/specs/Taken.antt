@@ -1,12 +1,9 @@
 -- A text that is taken: it spells a program, and keeps the limits of the language.
-use Rattle.std.specs.Prelude.{◌≡◌, ℕ, suc, ◌+◌, ◌<◌, ◌≤◌, max, Bool, true, cond, ◌&&◌, List, [], ◌∷◌, length, ◌==◌, nat_lt, slice_index_or}
+use Rattle.std.specs.Prelude.{◌≡◌, ℕ, suc, ◌+◌, ◌≤◌, max, Bool, true, cond, ◌&&◌, List, [], ◌∷◌, length, ◌==◌, nat_lt}
 use Rattle.lanes.specs.Syntax.{Program, Body, end, put, read_shared, write_shared, read_all, write_all, barrier, when, while}
 use Rattle.lanes.specs.Told.{BodyFits}
 use Rattle.grammar.specs.Spelling.{Spelled, Named}
-
--- No name is there twice.
-unfoldable pub Distinct : List (List ℕ) → Type 0
-Distinct ns = (j k : ℕ) → j < length ns → k < length ns → slice_index_or ns j [] ≡ slice_index_or ns k [] → j ≡ k
+pub use Rattle.grammar.specs.Names.{Distinct}
 
 -- How deep lines stand in each other: ifs and whiles count together.
 unfoldable pub depth : Body → ℕ

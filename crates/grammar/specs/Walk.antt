@@ -49,6 +49,11 @@ abbrev pub some_token : Option Keyword → Option ℕ → ℕ → ℕ → Result
 some_token None o i end = own_token o i end
 some_token (Some k) o i end = Ok (record { word = word.Key k; end = end })
 
+-- The byte behind the word at byte i, which begins with a letter and has 8 bytes at most.
+unfoldable pub short_word_at : List ℕ → ℕ → Result ℕ Refusal
+short_word_at text i =
+    cond (letter (slice_index text i)) (cond (nat_le 9 (run_of word_byte (drop i text))) (Err (Shape (i + 8))) (Ok (i + run_of word_byte (drop i text)))) (Err (Shape i))
+
 -- The word at byte i: of the language, or a name that `find` finds.
 unfoldable pub word_at : (List ℕ → Option ℕ) → List ℕ → ℕ → Result Token Refusal
 word_at find text i =

@@ -18,7 +18,7 @@ pub enum Keyword {
     Lanes,
 }
 
-// The word of the language that these bytes are, if they are one.
+// The word of the language that these bytes are, if they are one. Kept a function and no TryFrom: a word that is none is a name, and no error.
 pub fn keyword_of(word: &[u8]) -> Option<Keyword>
     ensures { MatchOption result ((k : Keyword) → word.now ≢ written k) (λ k. word.now ≡ written k) }
 {

@@ -14,6 +14,7 @@ use crate::tokens::{Word, expect, key_here, read_word};
 use crate::words::word_end;
 
 // A line of a body. An expression is given by the byte at which it begins, an own number by its place among the names.
+// `field` is kept a bool: it only says in which of the two memories a cell lies, and what is said of lines in the crates above speaks of it so.
 #[derive(Clone, Copy, PartialEq, Eq, Debug)]
 pub enum Line {
     Put {
@@ -153,21 +154,11 @@ pub fn within_line(pos: usize, found: Result<Lined, Refusal>) -> Result<Lined, R
     ensures { result ≡ within_line_spec pos found }
 {
     match found {
-        Ok(lined) => {
-            if lined.next > pos && lined.next - pos > 1025 {
-                Err(Refusal::Long(pos + 1024))
-            } else {
-                Ok(lined)
-            }
+        Ok(lined) if lined.next.saturating_sub(pos) > 1025 => Err(Refusal::Long(pos + 1024)),
+        Err(refusal) if refusal_place(refusal).saturating_sub(pos) > 1024 => {
+            Err(Refusal::Long(pos + 1024))
         }
-        Err(refusal) => {
-            let place = refusal_place(refusal);
-            if place > pos && place - pos > 1024 {
-                Err(Refusal::Long(pos + 1024))
-            } else {
-                Err(refusal)
-            }
-        }
+        _ => found,
     }
 }
 

@@ -1,7 +1,8 @@
 // What stands at a byte: a word with its meaning, or bytes that must be there.
-ghost use Rattle.std.specs.Prelude.{◌≡◌, ℕ, ◌+◌, ◌<◌, ◌^◌, List};
+ghost use Rattle.std.specs.Prelude.{◌≡◌, ℕ, ◌+◌, ◌<◌, ◌≤◌, ◌^◌, List, length, IfOk};
 ghost use Rattle.grammar.specs.Names.{NamesIn};
-ghost use Rattle.grammar.specs.Walk.{place_in, word_at, same_at, bytes_at, key_at};
+ghost use Rattle.grammar.specs.Words.{WordEnd};
+ghost use Rattle.grammar.specs.Walk.{place_in, short_word_at, word_at, same_at, bytes_at, key_at};
 
 use crate::bytes::{byte, is_letter};
 use crate::keywords::{Keyword, keyword_of};
@@ -23,10 +24,11 @@ pub struct Token {
     pub end: usize,
 }
 
-// The word at byte i, which begins with a letter and has 8 bytes at most.
-#[tactic(auto, using(crate::proofs::Walks::word_end_run), unfolding(crate::specs::Walk::word_at))]
-pub fn read_word(text: &[u8], i: usize) -> Result<Token, Refusal>
-    ensures { (ns : List (List ℕ)) → NamesIn ns text.now → result ≡ word_at (place_in ns) text.now i }
+// The byte behind the word at byte i, which begins with a letter and has 8 bytes at most.
+#[tactic(auto, using(crate::proofs::Walks::word_end_run), unfolding(crate::specs::Walk::short_word_at))]
+pub fn short_word(text: &[u8], i: usize) -> Result<usize, Refusal>
+    ensures walk { result ≡ short_word_at text.now i }
+    ensures word { IfOk result (λ end. WordEnd text.now i end × (end ≤ length text.now)) }
 {
     if !is_letter(byte(text, i)) {
         return Err(Refusal::Shape(i));
@@ -35,6 +37,14 @@ pub fn read_word(text: &[u8], i: usize) -> Result<Token, Refusal>
     if end - i > 8 {
         return Err(Refusal::Shape(i + 8));
     }
+    Ok(end)
+}
+
+// The short word at byte i: of the language, or the name of an own number.
+pub fn read_word(text: &[u8], i: usize) -> Result<Token, Refusal>
+    ensures { (ns : List (List ℕ)) → NamesIn ns text.now → result ≡ word_at (place_in ns) text.now i }
+{
+    let end = short_word(text, i)?;
     let word = match keyword_of(&text[i..end]) {
         Some(key) => Word::Key(key),
         None => Word::Own(name_index(text, i, end).ok_or(Refusal::Unknown(i))?),

@@ -1,30 +1,21 @@
 -- Each way through a line of a block is what specs/Blocks says.
-use Rattle.std.proofs.Common.{◌≡◌, ℕ, zero, suc, ◌-◌, ◌<◌, ◌≤◌, Bool, true, false, cond, List, length, IfOk, Ok, Err, Option, Result, sym, refl, ap, ◌∙◌, arith}
+use Rattle.std.proofs.Common.{◌≡◌, ℕ, zero, suc, ◌-◌, ◌<◌, ◌≤◌, Bool, true, false, cond, List, length, IfOk, Ok, Err, Option, Result, refl, ap, ◌∙◌, arith}
 use Rattle.std.proofs.lemmas.Bool.{le-leb, lt-leb}
 use denote.Enum.Bare.{sameb}
 use Rattle.reader.specs.contracts.blocks.Ending.{the_type}
 use Rattle.grammar.specs.Walk.{and_then}
 use Rattle.grammar.specs.declared.refusals.Refusal.{Refusal}
 use Rattle.grammar.specs.declared.lines.Lined.{Lined}
+use Rattle.grammar.proofs.Atoms.{then_ok}
 use Rattle.reader.specs.Blocks.{next_at, block_at, by_kind, kind_of_spec, is_else_spec, must_end_spec, must_as, must_loop_spec, must_loop_as}
 use Rattle.reader.specs.declared.blocks.Ending.{Ending}
 use Rattle.reader.specs.declared.blocks.Ending.TheVariants.{Text, Else, End}
 use Rattle.reader.specs.declared.blocks.Kind.{Kind}
 use Rattle.reader.specs.declared.blocks.Stop.{Stop}
 
-pub made_all : {X : Type 0} (P : Type 0) (r : Result X Refusal) → P → IfOk r (λ _. P)
-made_all P (Ok x) p = p
-made_all P (Err e) p = tt
-
 pub made-less : (r : Result Stop Refusal) (a b : ℕ) → a ≤ b → IfOk r (λ s. s.left ≤ a) → IfOk r (λ s. s.left ≤ b)
 made-less (Ok s) a b h m = omega (arith, h, m)
 made-less (Err e) a b h m = tt
-
-pub then-err : {X Y : Type 0} (r : Result X Refusal) (f : X → Result Y Refusal) (e : Refusal) → Err e ≡ r → Err e ≡ and_then r f
-then-err r f e h = rw (sym h) refl
-
-pub then_ok : {X Y : Type 0} (r : Result X Refusal) (f : X → Result Y Refusal) (x : X) → Ok x ≡ r → f x ≡ and_then r f
-then_ok r f x h = rw (sym h) refl
 
 module _ (find : List ℕ → Option ℕ) (text : List ℕ) (deep left i : ℕ) where
   module _ (some : Bool) where

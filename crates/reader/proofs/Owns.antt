@@ -112,7 +112,6 @@ not_seen (n ∷ ns) u h zero l e = let p = or_parts (same_bytes n u) (one_of ns 
 not_seen (n ∷ ns) u h (suc k) l e = not_seen ns u (or_parts (same_bytes n u) (one_of ns u) h).1 k (omega arith) e
 
 pub distinct_push : (ns : List (List ℕ)) (u : List ℕ) → Distinct ns → one_of ns u ≡ false → Distinct (ns ++ (u ∷ []))
-unfolding Distinct
 distinct_push ns u d f j k lj lk e =
     let len = length_push ns u in
     elim (cases_lt j (length ns)) [
@@ -161,7 +160,6 @@ pub record Walk (text : List ℕ) (seen : List (List ℕ)) (i : ℕ) : Type 0 wh
   pub apart : Apart (drop i text)
 
 pub walk_start : (text : List ℕ) → is_own_spec (key_at text 0) ≡ true → Walk text [] 3
-unfolding Distinct
 walk_start text h = record { names = λ k l. absurd (omega arith); distinct = λ j k lj lk e. absurd (omega arith); few = omega arith; here = refl; apart = (own-begins text h).1 }
 
 pub walk-on : (text : List ℕ) (seen : List (List ℕ)) (i j e : ℕ) → Walk text seen i → bytes_at text (codes " ") i ≡ Ok j → name_at seen text j ≡ Ok e → Walk text (seen ++ (word_part text j ∷ [])) e

@@ -80,7 +80,6 @@ no_own text h t =
     let z : ◌≡◌ {A = ℕ} 0 1 = cc in omega arith
 
 owned-none : (text : List ℕ) → is_own_spec (key_at text 0) ≡ false → Owned text (record { names = []; next = 0 })
-unfolding Distinct
 owned-none text h =
     record {
       names_in = record { line = []; rest = text; whole = refl; own_line = inl (refl, refl); names = λ k l. absurd (omega arith); few = omega arith; missing = λ _ t. no_own text h t };

@@ -40,7 +40,6 @@ getD-mid [] u ys = refl
 getD-mid (x ∷ xs) u ys = getD-mid xs u ys
 
 fresh : (seen : List (List ℕ)) (u : List ℕ) (ns : List (List ℕ)) → Distinct (seen ++ (u ∷ ns)) → one_of seen u ≡ false
-unfolding Distinct
 fresh seen u ns d =
     elim (cases_Bool (one_of seen u)) [
       | inr p ↦ p

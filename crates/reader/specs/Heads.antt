@@ -1,7 +1,7 @@
 -- Reading the lines before the body, step by step: what the code does, as functions.
-use Rattle.std.specs.Prelude.{◌≡◌, ℕ, zero, suc, ◌+◌, ◌-◌, ◌<◌, Bool, true, false, cond, List, [], ◌∷◌, ◌++◌, length, drop, Some, None, Ok, Err, codes, Option, Result, ◌==◌, nat_le, nat_lt, slice_index, slice_index_or}
-use Rattle.std.specs.List.{flat_map}
-use Rattle.grammar.specs.Spelling.{letter, digit, word_byte, each_byte, one_of}
+use Rattle.std.specs.Prelude.{ℕ, zero, suc, ◌+◌, ◌-◌, Bool, true, false, cond, List, [], ◌∷◌, ◌++◌, length, drop, Some, None, Ok, Err, codes, Option, Result, ◌==◌, nat_le, nat_lt, slice_index}
+use Rattle.grammar.specs.Spelling.{letter, digit, word_byte, one_of}
+pub use Rattle.grammar.specs.Names.{Words, spaced}
 use Rattle.grammar.specs.Runs.{run_of}
 use Rattle.grammar.specs.Walk.{word_part, key_at, bytes_at, number_part, and_then}
 use Rattle.grammar.specs.declared.refusals.Refusal.{Refusal}
@@ -9,14 +9,6 @@ use Rattle.grammar.specs.declared.refusals.Refusal.TheVariants.{Shape, Twice, Ma
 use Rattle.grammar.specs.declared.keywords.Keyword.{Keyword}
 use Rattle.grammar.specs.declared.keywords.Keyword.TheVariants.{Own, Cells, Cell, Field, Barrier, If, Else, End, While, Lane, Group, Lanes}
 use Rattle.reader.specs.declared.heads.Head.{Head}
-
--- Each is a word.
-abbrev pub Words : List (List ℕ) → Type 0
-Words ns = (k : ℕ) → k < length ns → each_byte word_byte (slice_index_or ns k []) ≡ true
-
--- Names, each behind a space.
-abbrev pub spaced : List (List ℕ) → List ℕ
-spaced ns = flat_map (λ u. 32 ∷ u) ns
 
 abbrev pub is_key : Option Keyword → Bool
 is_key None = false

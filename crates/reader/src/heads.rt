@@ -1,16 +1,14 @@
 // The lines before the body: own numbers and cells.
 ghost use Rattle.std.specs.Prelude.{◌≡◌, ℕ, ◌≤◌, List, ◌++◌, length, drop};
-ghost use Rattle.std.specs.List.{between, flat_map};
-ghost use Rattle.grammar.specs.Spelling.{one_of};
 ghost use Rattle.grammar.specs.Stands.{Apart};
 ghost use Rattle.reader.specs.Heads.{Words, spaced, name_at, own_at, counted, cells_at};
 
-use grammar::bytes::{byte, is_digit, is_letter};
+use grammar::bytes::{byte, is_digit};
 use grammar::keywords::{Keyword, keyword_of};
+use grammar::names::place_among;
 use grammar::numbers::read_number;
 use grammar::refusals::Refusal;
-use grammar::tokens::{expect, key_here};
-use grammar::words::word_end;
+use grammar::tokens::{expect, key_here, short_word};
 
 // How many there are, and the byte at which the next line begins.
 #[derive(Clone, Copy, PartialEq, Eq, Debug)]
@@ -19,43 +17,16 @@ pub struct Head {
     pub next: usize,
 }
 
-// The bytes from..to are one of the first `many` names of the own line.
-fn named_before(text: &[u8], from: usize, to: usize, many: usize) -> bool
-    ensures { from ≤ to → to ≤ length text.now → (seen : List (List ℕ)) (z : List ℕ) → length seen ≡ many → Words seen → Apart z → drop 3 text.now ≡ spaced seen ++ z → result ≡ one_of seen (between from to text.now) }
-{
-    if from > to || to > text.len() {
-        return false;
-    }
-    let mut at = 3;
-    for _k in 0..many {
-        if at >= text.len() {
-            return false;
-        }
-        let end = word_end(text, at + 1);
-        if text[at + 1..end] == text[from..to] {
-            return true;
-        }
-        at = end;
-    }
-    false
-}
-
 // The byte behind the name at byte i, which is to be name number `many`.
-#[tactic(auto, unfolding(crate::specs::Heads::name_at))]
 fn new_name(text: &[u8], i: usize, many: usize) -> Result<usize, Refusal>
     ensures { (seen : List (List ℕ)) (z : List ℕ) → length seen ≡ many → Words seen → Apart z → drop 3 text.now ≡ spaced seen ++ z → result ≡ name_at seen text.now i }
 {
-    if !is_letter(byte(text, i)) {
-        return Err(Refusal::Shape(i));
-    }
-    let end = word_end(text, i);
-    if end - i > 8 {
-        return Err(Refusal::Shape(i + 8));
-    }
-    if keyword_of(&text[i..end]).is_some() {
+    let end = short_word(text, i)?;
+    let name = &text[i..end];
+    if keyword_of(name).is_some() {
         return Err(Refusal::Shape(end));
     }
-    if named_before(text, i, end, many) {
+    if place_among(text, name, many).is_some() {
         return Err(Refusal::Twice(i));
     }
     if many >= 64 {

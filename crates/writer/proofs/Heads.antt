@@ -39,7 +39,6 @@ place-there (v ∷ vs) (suc k) h =
     ]
 
 pub place_found : (ns : List (List ℕ)) → Distinct ns → (k : ℕ) (u : List ℕ) → Named ns k u → place_in ns u ≡ k
-unfolding Distinct
 place_found ns d k u (h, q) = rw q (let p = place-there ns k h in d (place_in ns (get_or ns k [])) k p.0 h p.1)
 
 -- the names behind "own"

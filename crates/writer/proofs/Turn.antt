@@ -59,7 +59,6 @@ pub turn-names : (o : ℕ) → o ≤ 64 → (k : ℕ) → k < length (names_in_t
 turn-names o f k h = let g : k < o = rw (length-turn o) at h in rw (at_turn o k g) (is_name (name_in_turn k) (below_at (λ k. name-test (name_in_turn k)) 64 k all-names (omega arith)))
 
 pub turn-distinct : (o : ℕ) → o ≤ 64 → Distinct (names_in_turn o)
-unfolding Distinct
 turn-distinct o f j k g h e =
     let g' : j < o = rw (length-turn o) at g in
     let h' : k < o = rw (length-turn o) at h in

@@ -1,13 +1,18 @@
-use Rattle.std.proofs.Common.{◌≡◌, ℕ, List, length, ◌∙◌}
+use Rattle.std.proofs.Common.{◌≡◌, ℕ, List, length, Option, Result, refl, ◌∙◌}
 use Rattle.grammar.specs.Spelling.{Named}
 use Rattle.grammar.specs.Names.{NamesIn}
 use Rattle.grammar.specs.Walk.{place_in}
-use Rattle.grammar.specs.WalkLine.{line_at}
-use Rattle.grammar.proofs.Linewalks.{line_is}
+use Rattle.grammar.specs.WalkLine.{bare_at, within_line_spec, line_at}
+use Rattle.grammar.specs.declared.lines.Lined.{Lined}
+use Rattle.grammar.specs.declared.refusals.Refusal.{Refusal}
 use Rattle.grammar.proofs.Linehere.{line-done}
 use Rattle.grammar.proofs.Soundline.{line_made}
 use Rattle.grammar.proofs.Nameds.{place-named, named-place, named-name}
 use Rattle.grammar.proofs.lines.parse_line.Goals as goal
+
+line_is : (find : List ℕ → Option ℕ) (text : List ℕ) (i : ℕ) (r : Result Lined Refusal) → r ≡ bare_at find text i → within_line_spec i r ≡ line_at find text i
+unfolding line_at
+line_is find text i r e = rw e refl
 
 pub returns : goal.returns
 returns c =

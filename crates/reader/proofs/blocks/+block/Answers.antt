@@ -3,7 +3,8 @@ use Rattle.std.proofs.lemmas.Result.{err_from_is_err_and}
 use Rattle.grammar.specs.Walk.{place_in}
 use Rattle.reader.specs.Blocks.{block_at}
 use Rattle.reader.specs.declared.blocks.Kind.TheVariants.{Plain, Opens, Loops, Parts, Closes}
-use Rattle.reader.proofs.Nexts.{made-less, then-err, then_ok, block-text, block-step, block-kind, loop-left, end-left, same_else, cond-taken, cond-passed}
+use Rattle.grammar.proofs.Atoms.{then-err, then_ok}
+use Rattle.reader.proofs.Nexts.{made-less, block-text, block-step, block-kind, loop-left, end-left, same_else, cond-taken, cond-passed}
 use Rattle.reader.proofs.blocks.+block.Goals as goal
 
 pub returns-then-pos-text : goal.returns-then-pos-text

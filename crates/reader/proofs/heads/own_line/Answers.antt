@@ -3,7 +3,7 @@ use Rattle.std.proofs.lemmas.List.{length_push}
 use Rattle.std.proofs.lemmas.Result.{err_from_is_err_and}
 use Rattle.grammar.specs.Walk.{word_part}
 use Rattle.reader.specs.Heads.{counted, is_own_spec}
-use Rattle.reader.proofs.Nexts.{then-err, then_ok}
+use Rattle.grammar.proofs.Atoms.{then-err, then_ok}
 use Rattle.reader.proofs.Names.{own-none, own-some, names-step}
 use Rattle.reader.proofs.Owns.{walk_start, walk-on, walk-words, names-on, names-end, name-sound}
 use Rattle.reader.proofs.heads.own_line.Goals as goal

@@ -6,7 +6,7 @@ use Rattle.std.proofs.lemmas.Bool.Decides.{nat_tests}
 use Rattle.grammar.specs.Spelling.{letter, digit, word_byte, each_byte, same_bytes, one_of, keywords}
 use Rattle.grammar.specs.Stands.{Apart}
 use Rattle.grammar.specs.Runs.{run_of}
-use Rattle.grammar.specs.Walk.{key_of, key_at, word_part, word_at, some_token, bytes_at}
+use Rattle.grammar.specs.Walk.{key_of, word_part, word_at, some_token, bytes_at}
 use Rattle.grammar.specs.declared.keywords.Keyword.{Keyword}
 use Rattle.grammar.proofs.Runs.{run_step, run_none}
 
@@ -87,9 +87,6 @@ module _ (find : List ℕ → Option ℕ) (text : List ℕ) (i : ℕ) (u z : Lis
       let r : run_of word_byte (drop i text) ≡ length u = run-here word_byte text i u z bytes a e in
       let w : word_part text i ≡ u = part-here word_byte text i u z bytes a e in
       rw (l, w, r, lt-leb 9 (length u) (omega arith), p, q) refl
-
-  pub key-done : key_at text i ≡ key_of u
-  key-done = ap key_of (part-here word_byte text i u z bytes a e)
 
 pub digit-not_letter : (b : ℕ) → letter b ≡ true → digit b ≡ false
 digit-not_letter b h = grind (arith, nat_tests)

@@ -160,9 +160,6 @@ if-headed t b = if-body b.one.two.two.left t b.one.two.two.one (headed-with (cod
 while-headed : (t : List ℕ) → Both (Both (Just (codes "while")) Headed) (Just (codes "barrier\nend\n")) t → Bodied t
 while-headed t b = while-body b.one.two.two.left t b.one.two.two.one (headed-with (codes "while") (codes "barrier\nend\n") t b)
 
-headed-zero : Headed (codes " 0\n")
-headed-zero = record { left = codes " "; right = codes "0\n"; one = refl; two = ended-zero; is = refl }
-
 assigned-side : Both (Just (codes " = ")) Ended (codes " = 0\n")
 assigned-side = record { left = codes " = "; right = codes "0\n"; one = refl; two = ended-zero; is = refl }
 

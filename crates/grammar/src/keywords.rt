@@ -19,6 +19,7 @@ pub enum Keyword {
 }
 
 // The word of the language that these bytes are, if they are one. Kept a function and no TryFrom: a word that is none is a name, and no error.
+#[tactic(auto, using(crate::proofs::Listed::reads_of, std::proofs::lemmas::List::same_lists, std::proofs::lemmas::List::places))]
 pub fn keyword_of(word: &[u8]) -> Option<Keyword>
     ensures { MatchOption result ((k : Keyword) → word.now ≢ written k) (λ k. word.now ≡ written k) }
 {

@@ -13,29 +13,29 @@ use Rattle.reader.specs.declared.blocks.Ending.TheVariants.{Text, Else, End}
 use Rattle.reader.specs.declared.blocks.Kind.{Kind}
 use Rattle.reader.specs.declared.blocks.Stop.{Stop}
 
-pub made-less : (r : Result Stop Refusal) (a b : ℕ) → a ≤ b → IfOk r (λ s. s.left ≤ a) → IfOk r (λ s. s.left ≤ b)
-made-less (Ok s) a b h m = omega (arith, h, m)
-made-less (Err e) a b h m = tt
+pub made_less : (r : Result Stop Refusal) (a b : ℕ) → a ≤ b → IfOk r (λ s. s.left ≤ a) → IfOk r (λ s. s.left ≤ b)
+made_less (Ok s) a b h m = omega (arith, h, m)
+made_less (Err e) a b h m = tt
 
 module _ (find : List ℕ → Option ℕ) (text : List ℕ) (deep left i : ℕ) where
   module _ (some : Bool) where
-    pub block-text : (f : ℕ) → left < f → length text ≤ i → Ok (record { ending = Text; some = some; pos = i; next = i; left = left }) ≡ block_at find text f deep left i some
+    pub block_text : (f : ℕ) → left < f → length text ≤ i → Ok (record { ending = Text; some = some; pos = i; next = i; left = left }) ≡ block_at find text f deep left i some
     unfolding block_at
-    block-text zero h t = absurd (omega arith)
-    block-text (suc f) h t = rw (le-leb (length text) i t) refl
+    block_text zero h t = absurd (omega arith)
+    block_text (suc f) h t = rw (le-leb (length text) i t) refl
 
-    pub block-step : (f : ℕ) → left < f → i < length text
+    pub block_step : (f : ℕ) → left < f → i < length text
         → and_then (next_at find text deep left i) (λ l. by_kind (block_at find text (f - 1)) deep left i some (kind_of_spec l.line) l.next) ≡ block_at find text f deep left i some
     unfolding block_at
-    block-step zero h t = absurd (omega arith)
-    block-step (suc f) h t = let q : suc f - 1 ≡ f = omega arith in rw (lt-leb (length text) i t, q) refl
+    block_step zero h t = absurd (omega arith)
+    block_step (suc f) h t = let q : suc f - 1 ≡ f = omega arith in rw (lt-leb (length text) i t, q) refl
 
-    pub block-kind : (f : ℕ) (l : Lined) (k : Kind) → left < f → i < length text → Ok l ≡ next_at find text deep left i → k ≡ kind_of_spec l.line
+    pub block_kind : (f : ℕ) (l : Lined) (k : Kind) → left < f → i < length text → Ok l ≡ next_at find text deep left i → k ≡ kind_of_spec l.line
         → by_kind (block_at find text (f - 1)) deep left i some k l.next ≡ block_at find text f deep left i some
-    block-kind f l k h t e q =
+    block_kind f l k h t e q =
         ap (λ m. by_kind (block_at find text (f - 1)) deep left i some m l.next) q
         ∙ then_ok (next_at find text deep left i) (λ m. by_kind (block_at find text (f - 1)) deep left i some (kind_of_spec m.line) m.next) l e
-        ∙ block-step f h t
+        ∙ block_step f h t
 
 -- What `==` says of an else.
 pub same_else : (g : Ending) → sameb the_type g Else ≡ is_else_spec g
@@ -61,8 +61,8 @@ end-as Text s e h = absurd (not-ok e _ h)
 end-as Else s e h = absurd (not-ok e _ h)
 end-as End s e h = same_ok e s h
 
-pub end-left : (s e : Stop) → Ok e ≡ must_end_spec s → e.left ≡ s.left
-end-left s e h = ap (λ m. m.left) (end-as s.ending s e h)
+pub end_left : (s e : Stop) → Ok e ≡ must_end_spec s → e.left ≡ s.left
+end_left s e h = ap (λ m. m.left) (end-as s.ending s e h)
 
 loop_some : (b : Bool) (s e : Stop) (d : Refusal) → Ok e ≡ cond b (Ok s) (Err d) → (e ≡ s) × (b ≡ true)
 loop_some true s e d h = (same_ok e s h, refl)
@@ -73,5 +73,5 @@ loop-as Text s e h = absurd (not-ok e _ h)
 loop-as Else s e h = absurd (not-ok e _ h)
 loop-as End s e h = (loop_some s.some s e _ h).0
 
-pub loop-left : (s e : Stop) → Ok e ≡ must_loop_spec s → e.left ≡ s.left
-loop-left s e h = ap (λ m. m.left) (loop-as s.ending s e h)
+pub loop_left : (s e : Stop) → Ok e ≡ must_loop_spec s → e.left ≡ s.left
+loop_left s e h = ap (λ m. m.left) (loop-as s.ending s e h)

@@ -105,6 +105,7 @@ fn must_loop(body: Stop) -> Result<Stop, Refusal>
 // The lines from byte pos on, up to an else or an end that is not theirs or the end of the text; `left` lines may still
 // come, `deep` more of them may stand in each other, and `some` says that the block has lines before these.
 // Kept four numbers beside the text and no struct: of each call's numbers others are new, and a struct would only name them all once more.
+#[tactic(auto, using(crate::proofs::Nexts::block_text, crate::proofs::Nexts::made_less, crate::proofs::Nexts::loop_left, crate::proofs::Nexts::end_left))]
 pub fn block(text: &[u8], pos: usize, left: usize, deep: usize, some: bool) -> Result<Stop, Refusal>
     ensures fewer { IfOk result (λ s. s.left ≤ left) }
     ensures walk { (ns : List (List ℕ)) (f : ℕ) → NamesIn ns text.now → left < f → result ≡ block_at (place_in ns) text.now f deep left pos some }

@@ -1,4 +1,5 @@
-// Words of the language and lines of a text.
+// Words of the language and lines of a text. A text and the byte at which one reads are kept two parameters: what is promised speaks of each,
+// the text stays and the byte goes on, so a struct of both would be made anew at each step.
 #![tactic(auto)]
 
 pub mod bytes;

@@ -67,7 +67,7 @@ fn closed(text: &[u8], line: Line, i: usize) -> Result<Lined, Refusal>
     Ok(Lined { line, next })
 }
 
-// Whether the word is `field` or `cell`, if it is one of the two.
+// Whether the word is `field` or `cell`, if it is one of the two: the bool of `Line`.
 fn cell_kind(key: Option<Keyword>) -> Option<bool>
     ensures { result ≡ cell_kind_spec key }
 {

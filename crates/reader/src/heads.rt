@@ -36,7 +36,8 @@ fn new_name(text: &[u8], i: usize, many: usize) -> Result<usize, Refusal>
     }
 }
 
-// The line that names own numbers, if the text begins with one.
+// The line that names own numbers, if the text begins with one. Kept a loop that counts: how many names there are is what it finds, and
+// `new_name` ends it at the 65th, so a range would have an end that is never reached.
 pub fn own_line(text: &[u8]) -> Result<Head, Refusal>
     ensures { result ≡ counted (own_at text.now) }
 {

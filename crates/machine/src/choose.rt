@@ -18,6 +18,7 @@ use masks::count;
 use store::Sizes;
 
 // How many steps there are by then; or what is told. Before a row's step: if it would be more steps than were granted, it is too long.
+#[inline(always)]
 pub fn do_choice(
     source: &Source,
     z: Sizes,

@@ -55,6 +55,7 @@ pub fn do_lane(
 }
 
 // The lanes in the mask do their line, lowest first, until one goes wrong or races.
+#[inline(always)]
 pub fn do_masked(
     z: Sizes,
     lanes: &mut [u32],

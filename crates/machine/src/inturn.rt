@@ -17,6 +17,7 @@ fn lane_from(view: &View, g: usize, from: usize) -> Option<usize>
 }
 
 // What can be done from lane `lane` of group `group` on.
+#[inline(always)]
 pub fn find_from(view: &View, group: usize, lane: usize) -> Option<Choice>
     ensures { (at : ℕ → Body) (cs : List ℕ) → RunsIn view.now at → Passed view.now.sizes.lanes (grid_in view.now at cs) group lane → Picked view.now.sizes at view.now.lanes.now cs result }
 {
@@ -58,6 +59,7 @@ fn came_to(choice: Choice) -> InTurn
 impl Scheduler for InTurn {
     ghost knows = { λ s n d. Passed n d s.group s.lane };
 
+    #[inline(always)]
     fn next(&mut self, view: &View) -> Option<Choice> {
         let choice = find_from(view, self.group, self.lane)?;
         *self = came_to(choice);

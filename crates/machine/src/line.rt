@@ -118,6 +118,7 @@ pub fn is_inside(z: Sizes, row: Active) -> bool
 
 // The lanes of the mask do the line at the entry at which they all stand, lowest first. The first that touches a cell that isn't there,
 // or whose touch races, stops it.
+#[inline(always)]
 pub fn do_line(
     source: &Source,
     z: Sizes,

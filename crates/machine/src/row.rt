@@ -54,6 +54,7 @@ fn settle_row(
 }
 
 // The lanes of the mask, which all stand at one line, do it, lowest first. At an else or an end they first go where that goes.
+#[inline(always)]
 pub fn do_row(
     source: &Source,
     z: Sizes,

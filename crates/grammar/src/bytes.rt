@@ -1,5 +1,5 @@
 // Single bytes of a text.
-ghost use Rattle.std.specs.Prelude.{◌≡◌, ◌<◌, Bool, length, slice_index};
+ghost use Rattle.std.specs.Prelude.{◌≡◌, ◌+◌, ◌^◌, ◌<◌, Bool, length, drop, slice_index};
 ghost use Rattle.grammar.specs.Spelling.{digit, letter, word_byte};
 
 pub fn is_letter(b: u8) -> bool
@@ -26,4 +26,13 @@ pub fn byte(text: &[u8], i: usize) -> u8
     ensures within { 0 < result → i < length text.now }
 {
     text.get(i).copied().unwrap_or(0)
+}
+
+// The text from byte i on; nothing behind its end. By a slice: skip() would go over each byte before it.
+#[tactic(auto, using(std::proofs::lemmas::List::drop_min))]
+pub(crate) fn rest_from(text: &[u8], i: usize) -> &[u8]
+    ensures rest { result.now ≡ drop i text.now }
+    ensures within { i + length result.now < 2 ^ 64 }
+{
+    &text[i.min(text.len())..]
 }

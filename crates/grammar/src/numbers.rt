@@ -4,7 +4,7 @@ ghost use Rattle.std.specs.List.{fold, prefix_len};
 ghost use Rattle.grammar.specs.Spelling.{digit, decimal};
 ghost use Rattle.grammar.specs.Runs.{run_of, push_digit};
 
-use crate::bytes::is_digit;
+use crate::bytes::{is_digit, rest_from};
 
 // A run of digits: where it ends, and its number, if it is below 2^32.
 #[derive(Clone, Copy, PartialEq, Eq, Debug)]
@@ -27,15 +27,18 @@ fn count_digits(text: &[u8], i: usize) -> usize
     ensures count { result ≡ prefix_len digit (drop i text.now) }
     ensures within { i + result < 2 ^ 64 }
 {
-    text.iter().skip(i).take_while(|b| is_digit(**b)).count()
+    rest_from(text, i)
+        .iter()
+        .take_while(|b| is_digit(**b))
+        .count()
 }
 
 // The number of the n digits from byte i on.
 fn value_of(text: &[u8], i: usize, n: usize) -> Option<u32>
     ensures { result ≡ fold push_digit (Some 0) (take n (drop i text.now)) }
 {
-    text.iter()
-        .skip(i)
+    rest_from(text, i)
+        .iter()
         .take(n)
         .fold(Some(0), |value, b| push_digit(value, *b))
 }

@@ -4,7 +4,7 @@ ghost use Rattle.grammar.specs.Names.{NamesIn};
 ghost use Rattle.grammar.specs.Words.{WordEnd};
 ghost use Rattle.grammar.specs.Walk.{place_in, short_word_at, word_at, same_at, bytes_at, key_at};
 
-use crate::bytes::{byte, is_letter};
+use crate::bytes::{byte, is_letter, rest_from};
 use crate::keywords::{Keyword, keyword_of};
 use crate::names::name_index;
 use crate::refusals::Refusal;
@@ -64,8 +64,8 @@ fn count_same(text: &[u8], i: usize, wanted: &[u8]) -> usize
     ensures count { result ≡ same_at text.now i wanted.now }
     ensures within { i + result < 2 ^ 64 }
 {
-    text.iter()
-        .skip(i)
+    rest_from(text, i)
+        .iter()
         .zip(wanted)
         .take_while(|(b, w)| b == w && **w != 0)
         .count()

@@ -4,14 +4,17 @@ ghost use Rattle.std.specs.List.{prefix_len};
 ghost use Rattle.grammar.specs.Spelling.{word_byte};
 ghost use Rattle.grammar.specs.Words.{WordEnd};
 
-use crate::bytes::is_word;
+use crate::bytes::{is_word, rest_from};
 
 // How many letters and digits stand from byte i on.
 fn word_len(text: &[u8], i: usize) -> usize
     ensures count { result ≡ prefix_len word_byte (drop i text.now) }
     ensures within { i + result < 2 ^ 64 }
 {
-    text.iter().skip(i).take_while(|b| is_word(**b)).count()
+    rest_from(text, i)
+        .iter()
+        .take_while(|b| is_word(**b))
+        .count()
 }
 
 // Where the word that begins at i ends: behind the longest run of letters and digits.

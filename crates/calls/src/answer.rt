@@ -16,6 +16,7 @@ use machine::verdict::Verdict;
 use store::Sizes;
 
 // What is told, the machine's verdict, which names lines of the text too, and how many bytes are printed.
+// `len` and no bytes: they lie in the lent slice, and an answer is copied.
 #[derive(Clone, Copy)]
 pub struct Answer {
     pub verdict: Verdict,

@@ -1,4 +1,5 @@
 // The calls that programs make: a text and a field's bytes, and the lent slices.
+// A text and a field's bytes stay two parameters: they are two files, each is refused by itself, and what is promised names each.
 #![tactic(auto)]
 
 pub mod answer;

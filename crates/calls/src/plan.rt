@@ -112,6 +112,7 @@ pub fn make_plan(text: &[u8], bytes: &[u8], room: Room) -> Result<Plan, Refused>
 {
     let Asked { shape, granted } = ask(text, bytes)?;
     check_sizes(shape, room)?;
+    // Field by field, as in told.rt: both types are of other crates.
     let sizes = Sizes {
         groups: shape.groups,
         lanes: shape.lanes,

@@ -49,6 +49,7 @@ pub fn read_cells(heap: Global, text: &[u8]) -> Result<Vec<u32>, Unread>
 }
 
 // How many lines end before a byte.
+// As in `cli`: one chain.
 pub fn lines_before(text: &[u8], at: usize) -> usize
     ensures { result ≡ count_by is_end (take (min at (length text.now)) text.now) }
 {
@@ -63,10 +64,9 @@ fn last_word(text: &[u8]) -> usize
     ensures word { (k : ℕ) → result ≤ k → k < length text.now → 32 < slice_index text.now k }
     ensures begins { (k : ℕ) → result ≡ suc k → slice_index text.now k ≤ 32 }
 {
-    match text.iter().rposition(|byte| *byte <= b' ') {
-        Some(at) => at + 1,
-        None => 0,
-    }
+    text.iter()
+        .rposition(|byte| *byte <= b' ')
+        .map_or(0, |at| at + 1)
 }
 
 // Where the first word of a text ends; 0, if white space stands there.
@@ -92,8 +92,6 @@ pub fn word_at(text: &[u8], at: usize) -> &[u8]
 }
 
 // What is printed of a field is read as its cells.
-pub fn printed_back_stands() -> u8
+pub fn printed_back_stands()
     ensures { PrintedBack }
-{
-    0
-}
+{}

@@ -3,6 +3,7 @@ ghost use Rattle.std.specs.Prelude.{◌≡◌, ℕ, suc, ◌<◌, ◌≤◌, len
 ghost use Rattle.cli.specs.Spot.{IsSpot};
 
 // Lines and columns are counted from 1. The line's bytes are those from `start` up to `end`, its byte 10 not among them.
+// Two places and no range, which can't be copied.
 #[derive(Clone, Copy, PartialEq, Eq, Debug)]
 pub struct Spot {
     pub line: usize,
@@ -17,10 +18,9 @@ fn last_line(text: &[u8]) -> usize
     ensures begins { (k : ℕ) → result ≡ suc k → slice_index text.now k ≡ 10 }
     ensures none { (k : ℕ) → result ≤ k → k < length text.now → slice_index text.now k ≢ 10 }
 {
-    match text.iter().rposition(|byte| *byte == b'\n') {
-        Some(at) => at + 1,
-        None => 0,
-    }
+    text.iter()
+        .rposition(|byte| *byte == b'\n')
+        .map_or(0, |at| at + 1)
 }
 
 // Where the first line of a text ends.

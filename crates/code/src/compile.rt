@@ -207,6 +207,7 @@ fn skip_heading(text: Text, p: Place) -> Place
 }
 
 // A text that was taken is made into steps: how many entries there are. Each has 16 words, and there are no more of them than lines.
+// 0 entries and no None where nothing is made: a text that was taken always is, and of another nothing is promised.
 pub fn compile(text: &[u8], steps: &mut [u32]) -> usize
     ensures few { result ≤ length steps.old / 16 }
     ensures made { (ns : List (List ℕ)) (p : Program) → Taken ns p text.now → lines_in text.now * 16 ≤ length steps.old → Compiled ns p text.now steps.old steps.new result }

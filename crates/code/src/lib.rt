@@ -15,17 +15,13 @@ pub use step::Step;
 pub use words::{decode, text_line_of, write_entry};
 
 // The theorem that code which stands for a body does at each entry what is left there.
-pub fn code_right_stands() -> u8
+pub fn code_right_stands()
     ensures { CodeRight }
-{
-    0
-}
+{}
 
 ghost use Rattle.code.specs.Joins.{JoinsRight};
 
 // The theorem that what stands in an if or a while stays in it until its lanes join.
-pub fn joins_right_stands() -> u8
+pub fn joins_right_stands()
     ensures { JoinsRight }
-{
-    0
-}
+{}

@@ -10,7 +10,7 @@ use grammar::names::name_index;
 use grammar::words::word_end;
 
 // A line: what it says, with the bytes where its expressions stand. `Heading` is the line of the own numbers or of the cells.
-// Not the grammar's Line, which is of a line that was checked: this one knows headings, and has bytes and flags as a step has them.
+// Not the grammar's Line, which is of a line that was checked: this one knows headings, and has bytes as a step has them.
 #[derive(Clone, Copy, PartialEq, Eq, Debug)]
 pub enum Line {
     Heading,
@@ -84,13 +84,8 @@ fn value_line(text: Text, own: u32, x: usize) -> Line
 {
     let end = word_end(text.bytes, x);
     match keyword_of(&text.bytes[x..end]) {
-        Some(Keyword::Cell) => Line::Read {
-            field: false,
-            own,
-            expr: (end + 1) as u32,
-        },
-        Some(Keyword::Field) => Line::Read {
-            field: true,
+        Some(key @ (Keyword::Cell | Keyword::Field)) => Line::Read {
+            field: key == Keyword::Field,
             own,
             expr: (end + 1) as u32,
         },

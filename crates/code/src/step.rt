@@ -1,6 +1,6 @@
 // What one line does. `expr`, `place` and `value` are bytes of the text where an expression stands; `next`, `yes`, `no`, `join` and
 // `to` are entries. An if and a while are a branch; at an else and at an end a lane only goes to another entry.
-// `field` and `looped` stay truth values: they only say which of two steps it is, and the definitions of four crates speak of them so.
+// `field` and `looped` are truth values: each is named where a step is made or matched, so `looped: true` says as much as a variant would.
 #[derive(Clone, Copy, PartialEq, Eq, Debug)]
 pub enum Step {
     Put {

@@ -17,6 +17,7 @@ fn entry_of(steps: &[u32], i: usize) -> Option<&[u32; ENTRY]>
 
 // The step at entry i of the first `lines`; behind them, and where the words end, is the end. Steps are told apart by the
 // first word, as they lie in lent words.
+// The words, and how many of their entries count, are two parameters: lent words hold more entries than a program has, and clauses speak of each.
 #[tactic(auto, using(std::proofs::lemmas::Bool::Decides::nat_tests), unfolding(crate::specs::Words::step_at))]
 pub fn decode(steps: &[u32], lines: usize, i: usize) -> Step
     ensures { result ≡ step_at steps.now lines i }
@@ -29,43 +30,24 @@ pub fn decode(steps: &[u32], lines: usize, i: usize) -> Step
     };
     match *entry {
         [1, own, expr, next, ..] => Step::Put { own, expr, next },
-        [2, own, expr, next, ..] => Step::Read {
-            field: false,
+        [kind @ (2 | 3), own, expr, next, ..] => Step::Read {
+            field: kind == 3,
             own,
             expr,
             next,
         },
-        [3, own, expr, next, ..] => Step::Read {
-            field: true,
-            own,
-            expr,
-            next,
-        },
-        [4, place, value, next, ..] => Step::Write {
-            field: false,
+        [kind @ (4 | 5), place, value, next, ..] => Step::Write {
+            field: kind == 5,
             place,
             value,
             next,
         },
-        [5, place, value, next, ..] => Step::Write {
-            field: true,
-            place,
-            value,
-            next,
-        },
-        [6, expr, yes, no, join, ..] => Step::Branch {
+        [kind @ (6 | 7), expr, yes, no, join, ..] => Step::Branch {
             expr,
             yes,
             no,
             join,
-            looped: false,
-        },
-        [7, expr, yes, no, join, ..] => Step::Branch {
-            expr,
-            yes,
-            no,
-            join,
-            looped: true,
+            looped: kind == 7,
         },
         [8, to, ..] => Step::Jump { to },
         [9, next, ..] => Step::Barrier { next },
@@ -74,14 +56,12 @@ pub fn decode(steps: &[u32], lines: usize, i: usize) -> Step
 }
 
 // The line of the text, from 1, that entry i comes from; 0 where there is no entry.
+// A 0 and no None: lines count from 1, and the number is kept in a word.
 #[tactic(auto, unfolding(crate::specs::Words::text_line_spec))]
 pub fn text_line_of(steps: &[u32], i: usize) -> u32
     ensures { result ≡ text_line_spec steps.now i }
 {
-    match entry_of(steps, i) {
-        Some(entry) => entry[15],
-        None => 0,
-    }
+    entry_of(steps, i).map_or(0, |entry| entry[15])
 }
 
 // The five words that a step is.

@@ -114,6 +114,7 @@ pub fn print_told(out: &mut [u8], told: Told, cells: &[u32]) -> Result<usize, Re
 }
 
 // Prints a refusal.
+// By number and place: a text's refusals are of a crate that this one doesn't know.
 #[tactic(auto, unfolding(crate::specs::Printed::refusal_line))]
 pub fn print_refusal(out: &mut [u8], number: u64, place: usize) -> Result<usize, Refusal>
     ensures { Prints 256 (refusal_line number place) out.old out.new result }

@@ -39,6 +39,7 @@ pub enum Told {
 }
 
 // A race of two touches of one cell: that of the lower group, and in one group that of the lower lane, stands first.
+// Touches of another type are put in order in machine: neither crate knows the other.
 pub fn race_of(place: Place, cell: usize, a: Touch, b: Touch) -> Told
     ensures { result ≡ in_order place cell a b }
 {

@@ -14,7 +14,7 @@ use crate::tokens::{Word, expect, key_here, read_word};
 use crate::words::word_end;
 
 // A line of a body. An expression is given by the byte at which it begins, an own number by its place among the names.
-// `field` is kept a bool: it only says in which of the two memories a cell lies, and what is said of lines in the crates above speaks of it so.
+// `field` is a truth value: it is named where a line is made or matched, so `field: true` says as much as a variant would.
 #[derive(Clone, Copy, PartialEq, Eq, Debug)]
 pub enum Line {
     Put {

@@ -19,6 +19,7 @@ pub fn place_among(text: &[u8], name: &[u8], many: usize) -> Option<usize>
     ensures place { (ns : List (List ℕ)) (z : List ℕ) → NamesAt ns z many text.now → PlaceOf ns name.now result }
 {
     let mut at = 3;
+    // A loop: where a name ends says where the next begins.
     for k in 0..many {
         // A name stands behind a space; the line ends otherwise.
         if byte(text, at) != b' ' {

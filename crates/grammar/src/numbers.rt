@@ -23,6 +23,7 @@ fn push_digit(value: Option<u32>, digit: u8) -> Option<u32>
 }
 
 // How many digits stand from byte i on.
+// One chain, as for words with another test: a function that took the test would be no shorter.
 fn count_digits(text: &[u8], i: usize) -> usize
     ensures count { result ≡ prefix_len digit (drop i text.now) }
     ensures within { i + result < 2 ^ 64 }

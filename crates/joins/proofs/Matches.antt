@@ -71,6 +71,15 @@ module _ (code : ℕ → Step) where
   are-long (o ∷ os) [] a = absurd a
   are-long (o ∷ os) (j ∷ js) a = ap suc (are-long os js a.1)
 
+  pub are-none : AreOpen code [] []
+  unfolding AreOpen
+  are-none = tt
+
+  pub are-gone : (os : List Open) (js : List Join) → AreOpen code os js → os ≡ [] → js ≡ []
+  unfolding AreOpen
+  are-gone os [] a e = refl
+  are-gone os (j ∷ js) a e = absurd (subst (λ (v : List Open). AreOpen code v (j ∷ js)) e a)
+
   are-same : (os vs : List Open) (js ks : List Join) → vs ≡ os → ks ≡ js → AreOpen code os js → AreOpen code vs ks
   are-same os vs js ks p q a = subst (λ (v : List Open). AreOpen code v ks) (sym p) (subst (λ (v : List Join). AreOpen code os v) (sym q) a)
 

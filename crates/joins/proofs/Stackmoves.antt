@@ -1,5 +1,5 @@
 -- A join put, and how many there are: what the stack is then.
-use Rattle.std.proofs.Common.{◌≡◌, ℕ, suc, ◌+◌, ◌-◌, ◌*◌, ◌/◌, ◌%◌, ◌<◌, ◌≤◌, List, [], ◌∷◌, length, sym, refl, ap, ◌∙◌, inl, inr, add-one, arith}
+use Rattle.std.proofs.Common.{◌≡◌, ℕ, suc, ◌+◌, ◌-◌, ◌*◌, ◌/◌, ◌%◌, ◌<◌, ◌≤◌, List, [], ◌∷◌, ◌++◌, length, sym, refl, ap, ◌∙◌, inl, inr, add-one, arith}
 use Rattle.std.proofs.lemmas.Bool.{cases_eq}
 use Rattle.masks.specs.Masks.{lacking}
 use Rattle.store.specs.declared.Sizes.{Sizes}
@@ -7,7 +7,7 @@ use Rattle.store.specs.Lent.{slot_of, Aside}
 use Rattle.joins.specs.declared.Join.{Join}
 use Rattle.joins.specs.Stack.{RowAt, width_of, join_at, depth_of, down_from, stack_of, lost, leaves, Stacked}
 use Rattle.joins.specs.Words.{Deep, JoinPut}
-use Rattle.joins.proofs.Stacklists.{down-none, down-more, down-lost, down_out, down-length, leaves-past}
+use Rattle.joins.proofs.Stacklists.{down-none, down-more, down-split, down-lost, down_out, down-length, leaves-past}
 use Rattle.joins.proofs.Stackframes.{lane_there, lane-near, join_is, join-words, join-same, depth_same, depth_is, stack_is, depth-most, stacked-none, stacked-both, stacked-aside}
 
 pub deep : (z : Sizes) (g start n : ℕ) (ls ls' : List ℕ) → RowAt z g start → n ≤ 16 * width_of z.lanes start → Aside z g 6 start n ls ls' → Deep z g start n ls ls'
@@ -71,6 +71,10 @@ module _ (z : Sizes) (g start : ℕ) (ls : List ℕ) where
 
   pub stack-length : length (stack_of z ls g start) ≡ depth_of z ls g start
   stack-length = ap (λ (xs : List Join). length xs) stack-was ∙ down-length (join_at z ls g start) (depth_of z ls g start)
+
+  -- join k on the stack, with those above it and those below
+  pub stack-split : (k : ℕ) → k < depth_of z ls g start → (above : List Join) × (stack_of z ls g start ≡ above ++ (join_at z ls g start k ∷ down_from (join_at z ls g start) k))
+  stack-split k h = let p = down-split (join_at z ls g start) (depth_of z ls g start) k h in (p.0, stack-was ∙ p.1)
 
   pub pushed : (n : ℕ) (j : Join) (ls' ls'' : List ℕ) → n ≡ depth_of z ls g start → n < 16 * width_of z.lanes start → JoinPut z g start n j ls ls' → Deep z g start (n + 1) ls' ls'' →
       stack_of z ls'' g start ≡ j ∷ stack_of z ls g start

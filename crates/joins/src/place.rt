@@ -4,6 +4,7 @@ ghost use Rattle.joins.specs.Stack.{RowAt};
 use store::Sizes;
 
 // A row of the grid, by its group and its first lane.
+// Not the lanes: they are read in one function and written in the next.
 #[derive(Clone, Copy)]
 pub struct RowPlace {
     pub sizes: Sizes,

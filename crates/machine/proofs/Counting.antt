@@ -8,6 +8,16 @@ use Rattle.masks.specs.Masks.{on, lanes_in}
 use Rattle.machine.specs.Line.{row_turns}
 use Rattle.machine.proofs.Passing.{turn-can}
 
+-- as many turns as lanes
+pub row-length : (g start mask i : ℕ) → length (row_turns g start mask i) ≡ lanes_in mask i
+unfolding row_turns lanes_in
+row-length g start mask zero = refl
+row-length g start mask (suc i) = length-append (row_turns g start mask i) _ ∙ (ap (λ (k : ℕ). k + length (cond (on mask i) (of g (start + i) ∷ []) [])) (row-length g start mask i) ∙ ap (λ (k : ℕ). lanes_in mask i + k) (by (on mask i)))
+  where
+    by : (b : Bool) → length (cond b (of g (start + i) ∷ []) []) ≡ cond b 1 0
+    by true = refl
+    by false = refl
+
 apart_of : (g start i k : ℕ) → suc i ≤ k → Apart (of g (start + i)) (of g (start + k))
 unfolding Apart
 apart_of g start i k h = λ _ e. omega arith

@@ -37,11 +37,11 @@ first_mark r = mark_of (numbered r.place) r.cell r.first.who r.first.wrote
 abbrev pub second_mark : Race → Mark
 second_mark r = mark_of (numbered r.place) r.cell r.second.who r.second.wrote
 
--- After the row of turns us: all is well so far, or us shows the race or the wrong lane that is named.
 -- What came of a turn or of turns: all is well, or the last of them is told.
 abbrev pub Outcome : Type 0
 Outcome = Result (Unit {0}) Stopped
 
+-- After the row of turns us: all is well so far, or us shows the race or the wrong lane that is named.
 abbrev pub After : Sizes → (ℕ → Body) → Grid → List Turn → List ℕ → List ℕ → List ℕ → Outcome → Type 0
 After z at d us ls cs ks (Ok u) = Sofar z at d us ls cs ks
 After z at d us ls cs ks (Err (Raced r)) = (most : ℕ) → Shows most z.lanes d us (races (first_mark r) (second_mark r))

@@ -1,5 +1,6 @@
 // One line for the lanes of a row that are in a mask, with the numbers that were worked out for each. Lanes, cells and touches are lent
-// beside each other: in a struct, a proof would know no more than the length of a slice that was lent from it to be read.
+// beside each other: in a struct, a proof would know no more than the length of a slice that was lent from it to be read, unless each of these
+// functions takes it out first.
 ghost use Rattle.std.specs.Prelude.{◌≡◌, ℕ, ◌+◌, ◌*◌, ◌<◌, ◌≤◌, Bool, true, length};
 ghost use Rattle.store.specs.Layout.{cells_room};
 ghost use Rattle.store.specs.Lent.{Lent, phase_of_spec};

@@ -1,4 +1,5 @@
 // The machine: its schedulers name turns, the executor does them, touches are looked at, and what is told is right.
+// What does a turn is hinted to be one piece with the run (`#[inline(always)]`): a mask of one lane is then known where it is used.
 #![tactic(auto)]
 
 pub mod choose;

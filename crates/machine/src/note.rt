@@ -10,6 +10,7 @@ use store::{Deed, Whereabouts};
 use touches::{Found, Who, touch};
 
 // The touch of the lower group, then of the lower lane, is told first.
+// Touches of another type are put in order in formats: neither crate knows the other.
 fn paired(place: Whereabouts, cell: u32, a: Found, b: Found) -> Race
     ensures { result ≡ paired_of place cell a b }
 {

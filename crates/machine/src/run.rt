@@ -57,6 +57,7 @@ pub fn run_turns<S: Scheduler>(
 {
     let source = Source { text, steps, lines };
     let mut done = 0;
+    // A loop: the scheduler says what comes next, and the slices are written in between.
     loop {
         let view = View {
             steps,

@@ -2,7 +2,7 @@
 use Rattle.std.specs.Prelude.{ℕ, List, Ok, Err, Result}
 use Rattle.calls.specs.declared.answer.Answer.{Answer}
 use Rattle.calls.specs.declared.plan.Refused.{Refused}
-use Rattle.calls.specs.Answers.{Slices, Tells, Answered}
+use Rattle.calls.specs.Answers.{Slices, Tells}
 use Rattle.show.specs.declared.slices.Slices as vectors
 use Rattle.formats.specs.declared.told.Told.{Told}
 use Rattle.formats.specs.declared.told.Told.TheVariants.{Field, Race, Wrong, Stuck, TooLong}
@@ -10,10 +10,6 @@ use Rattle.formats.specs.declared.told.Told.TheVariants.{Field, Race, Wrong, Stu
 -- What the memory holds.
 abbrev pub held : vectors.Slices → Slices
 held m = record { steps = m.steps.items; lanes = m.lanes.items; cells = m.cells.items; touches = m.marks.items; printed = m.printed.items }
-
--- So a call answers to which this memory is lent.
-abbrev pub AnsweredFrom : List ℕ → List ℕ → vectors.Slices → Result Answer Refused → Type 0
-AnsweredFrom text bytes before r = (after : Slices) × Answered text bytes (held before) after r
 
 abbrev pub IsField : Told → Type 0
 IsField Field = Unit {0}

@@ -1,6 +1,7 @@
 // The memory that a program lends.
-ghost use Rattle.std.specs.Prelude.{◌≤◌, IfOk, vec_len};
-ghost use Rattle.show.specs.Ends.{AnsweredFrom};
+ghost use Rattle.std.specs.Prelude.{◌≡◌, ◌≤◌, IfOk, vec_len};
+ghost use Rattle.calls.specs.Answers.{Answered};
+ghost use Rattle.show.specs.Ends.{held};
 
 use calls::answer::Answer;
 use calls::memory::Memory;
@@ -41,26 +42,51 @@ pub fn lend(rt: &HostRuntime, text: &[u8], bytes: &[u8]) -> io::Result<Slices>
     })
 }
 
+// Runs the text on the field in these slices: does the turns, if there are some written down, and then one lane after the other.
+fn run_in(
+    text: &[u8],
+    bytes: &[u8],
+    turns: Option<&[Written]>,
+    steps: &mut [u32],
+    lanes: &mut [u32],
+    cells: &mut [u32],
+    marks: &mut [u64],
+    printed: &mut [u8],
+) -> Result<Answer, Refused>
+    ensures { Answered text.now bytes.now (record { steps = steps.old; lanes = lanes.old; cells = cells.old; touches = marks.old; printed = printed.old }) (record { steps = steps.new; lanes = lanes.new; cells = cells.new; touches = marks.new; printed = printed.new }) result }
+{
+    let mut lent = Memory {
+        steps,
+        lanes,
+        cells,
+        marks,
+        printed,
+    };
+    match turns {
+        Some(turns) => any_text(turns, text, bytes, &mut lent),
+        None => run_text(text, bytes, &mut lent),
+    }
+}
+
 impl Slices {
-    // Runs the text on the field in this memory: does the turns, if there are some written down, and then one lane after the other.
+    // Runs the text on the field in this memory.
     pub fn run(
         &mut self,
         text: &[u8],
         bytes: &[u8],
         turns: Option<&[Written]>,
     ) -> Result<Answer, Refused>
-        ensures { AnsweredFrom text.now bytes.now self.old result }
+        ensures { Answered text.now bytes.now (held self.old) (held self.new) result }
     {
-        let mut lent = Memory {
-            steps: self.steps.as_mut_slice(),
-            lanes: self.lanes.as_mut_slice(),
-            cells: self.cells.as_mut_slice(),
-            marks: self.marks.as_mut_slice(),
-            printed: self.printed.as_mut_slice(),
-        };
-        match turns {
-            Some(turns) => any_text(turns, text, bytes, &mut lent),
-            None => run_text(text, bytes, &mut lent),
-        }
+        run_in(
+            text,
+            bytes,
+            turns,
+            self.steps.as_mut_slice(),
+            self.lanes.as_mut_slice(),
+            self.cells.as_mut_slice(),
+            self.marks.as_mut_slice(),
+            self.printed.as_mut_slice(),
+        )
     }
 }

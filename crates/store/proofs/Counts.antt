@@ -34,6 +34,11 @@ unfolding how_many
 many-none f zero e = refl
 many-none f (suc n) e = rw (many-none f n (λ l k. e l (omega arith)), e n (omega arith))
 
+pub many-all : (f : ℕ → Bool) (n : ℕ) → ((l : ℕ) → l < n → f l ≡ true) → how_many f n ≡ n
+unfolding how_many
+many-all f zero e = refl
+many-all f (suc n) e = rw (many-all f n (λ l k. e l (omega arith)), e n (omega arith)) (add-one n)
+
 -- if not all are so, there is one that isn't; and if as many as there are are so, all are
 pub some-not : (f : ℕ → Bool) (n : ℕ) → (how_many f n ≡ n → ⊥) → (l : ℕ) × (l < n) × (f l ≡ false)
 unfolding how_many

@@ -1,5 +1,5 @@
 -- Each slot of a lane has a place of its own; slots and lanes under a write to one slot.
-use Rattle.std.proofs.Common.{◌≡◌, ℕ, ◌+◌, ◌-◌, ◌*◌, ◌<◌, ◌≤◌, true, eqb, ◌⊎◌, List, length, get_or, set, ap, ◌∙◌, inl, inr, add-mul, arith, length-set, get_or-set_other, get_or-set_same}
+use Rattle.std.proofs.Common.{◌≡◌, ℕ, ◌+◌, ◌-◌, ◌*◌, ◌<◌, ◌≤◌, true, eqb, ◌⊎◌, List, length, get_or, set, refl, ap, ◌∙◌, inl, inr, add-mul, arith, length-set, get_or-set_other, get_or-set_same}
 use lib.Arith.{digits_lt}
 use Rattle.std.proofs.lemmas.Bool.{cases_eq}
 use Rattle.lanes.specs.Syntax.{Body}
@@ -114,6 +114,9 @@ module _ (z : Sizes) (at : ℕ → Body) (g l : ℕ) (hg : g < z.groups) (hl : l
       (ap (λ n. eqb n 1) (slot_same z g 1 l (omega arith) hl ls 1 hg fit))
 
 -- only one lane changes
+pub only_none : (z : Sizes) (g l : ℕ) (ls : List ℕ) → Only z g l ls ls
+only_none z g l ls = record { others = λ _ _ _ _ _ _. refl; words = λ _ _ _ _ _ _. refl }
+
 pub only-both : (z : Sizes) (g l : ℕ) (ls ls' ls'' : List ℕ) → Only z g l ls ls' → Only z g l ls' ls'' → Only z g l ls ls''
 only-both z g l ls ls' ls'' p q =
     record {

@@ -51,27 +51,29 @@ pub fn perform(
             Deed::Quiet
         }
         Todo::Read { field, own, next } => {
-            let Some(i) = spot(z, field, g, c) else {
+            let place = owner(field, g);
+            let Some(i) = spot(z, place, c) else {
                 go_wrong(z, lanes, g, l, stop);
                 return Deed::Wrong;
             };
             put_own(z, lanes, g, l, own, cells[i], next);
             Deed::Touched(Seen {
-                place: owner(field, g),
+                place,
                 cell: c,
                 wrote: false,
                 index: i,
             })
         }
         Todo::Write { field, next } => {
-            let Some(i) = spot(z, field, g, c) else {
+            let place = owner(field, g);
+            let Some(i) = spot(z, place, c) else {
                 go_wrong(z, lanes, g, l, stop);
                 return Deed::Wrong;
             };
             cells[i] = v;
             stand(z, lanes, g, l, next);
             Deed::Touched(Seen {
-                place: owner(field, g),
+                place,
                 cell: c,
                 wrote: true,
                 index: i,

@@ -1,6 +1,7 @@
 // The grid of lanes and cells in lent slices. The definitions in specs/ say which grid the slices stand for.
-// Sizes, slices, group and lane are passed apart, and clauses say what holds between them: two slices of one struct can't be lent to be
-// written at once, and a struct for a lane's place would be made anew for each lane that a loop goes over.
+// Sizes, slices, group and lane are passed apart, and clauses say what holds between them: in a struct of lent slices none can be read
+// while another is written, unless it is taken out first, and a struct of a lane's place would be built at each turn of a loop, only for
+// `place` to take it apart.
 #![tactic(auto)]
 
 mod acts;
@@ -16,11 +17,12 @@ pub use acts::{owner, perform};
 pub use fresh::{room_of, start};
 pub use groups::{go_on, phase_of, put_word, word_of};
 pub use rows::{branch_row, copy_cells, fill_row, put_row};
-use std::marker::Model;
 pub use tally::{ended_of, put_counts, waiting_of};
 pub use words::{
     go_wrong, is_wrong, line_of, own_base, own_of, place, put_own, spot, spot_row, stand,
 };
+
+use std::marker::Model;
 
 // How many groups, lanes in a group, own numbers of a lane, cells of a group, cells of the field. All of them are in bounds.
 #[derive(Clone, Copy)]
@@ -47,7 +49,7 @@ impl Model for Sizes {
     ghost inverse = { λ v. record { groups = v.groups; lanes = v.lanes; owns = v.owns; shared = v.shared; field = v.field } };
 }
 
-// What a lane has to do next, without its expressions: which own number is set, whether the cell is the field's, and the line behind.
+// What a lane has to do next, without its expressions: which own number is set, whether the cell is the field's (as in a step), and the line behind.
 #[derive(Clone, Copy)]
 pub enum Todo {
     Put { own: u32, next: u32 },
@@ -73,7 +75,7 @@ pub struct Seen {
 }
 
 // What a lane did: it touched nothing, or a cell, or went wrong as the cell isn't there.
-// Kept an enum of its own: a lane that goes wrong is told of like any other, and no call fails by it.
+// Kept an enum of its own: a lane that went wrong has been written so, and a Result with an Option in it would say the three less plainly.
 #[derive(Clone, Copy)]
 pub enum Deed {
     Quiet,
@@ -82,8 +84,6 @@ pub enum Deed {
 }
 
 // With anything in the lent memory of lanes that have ended, everything does the same.
-pub fn ended_free_stands() -> u8
+pub fn ended_free_stands()
     ensures { EndedFree }
-{
-    0
-}
+{}

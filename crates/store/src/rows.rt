@@ -8,6 +8,7 @@ use crate::Sizes;
 use crate::acts::chosen;
 use crate::words::place;
 
+// By an index: of what is written through iter_mut() behind a zip nothing is known afterwards.
 fn choose(to: &mut [u32], from: &[u32], yes: u32, no: u32)
     requires { length to.old ≡ length from.now }
     ensures { (k : ℕ) → k < length to.new → slice_index to.new k ≡ (if nat_eq (slice_index from.now k) 0 then no else yes) }

@@ -3,10 +3,10 @@
 
 ghost use Rattle.std.specs.Prelude.{◌≡◌, ℕ, ◌+◌, ◌*◌, ◌<◌, ◌≤◌, Bool, true, List, length, MatchOption, ◌==◌, slice_index, slice_set};
 ghost use Rattle.lanes.specs.Syntax.{Body};
-ghost use Rattle.store.specs.Layout.{slots, place_of, room, base, size, whose, cells_room};
+ghost use Rattle.store.specs.Layout.{slots, place_of, room, base, size, numbered, cells_room};
 ghost use Rattle.store.specs.Lent.{slot_of, line_at, own_of, Settled};
 
-use crate::Sizes;
+use crate::{Sizes, Whereabouts};
 
 // The place of slot s of lane l of group g.
 pub fn place(z: Sizes, g: usize, s: usize, l: usize) -> usize
@@ -20,6 +20,7 @@ pub fn place(z: Sizes, g: usize, s: usize, l: usize) -> usize
 }
 
 // Where own numbers lie: own number k of lane l + i of group g is at this place, k times the lanes and i further.
+// Not by `place`: where lanes have no own numbers there is no slot 128.
 pub fn own_base(z: Sizes, g: usize, l: usize) -> usize
     requires group { g < z.groups }
     requires lane { l < z.lanes }
@@ -28,43 +29,45 @@ pub fn own_base(z: Sizes, g: usize, l: usize) -> usize
     (g * (128 + z.owns) + 128) * z.lanes + l
 }
 
-// Where the cells of the field begin, or of group g.
-fn first_cell(z: Sizes, field: bool, g: usize) -> usize
-    requires { g < z.groups }
-    ensures is { result ≡ base z (whose field g) }
+// Where the cells of the field begin, or of a group.
+fn first_cell(z: Sizes, of: Whereabouts) -> usize
+    requires { numbered of ≤ z.groups }
+    ensures is { result ≡ base z (numbered of) }
     ensures few { result ≤ 16777216 }
 {
-    if field {
-        z.groups * z.shared
-    } else {
-        g * z.shared
+    match of {
+        Whereabouts::Field => z.groups * z.shared,
+        Whereabouts::Group(g) => g * z.shared,
     }
 }
 
 // How many cells the field has, or a group.
-fn many_cells(z: Sizes, field: bool, g: usize) -> usize
-    ensures { result ≡ size z (whose field g) }
+fn many_cells(z: Sizes, of: Whereabouts) -> usize
+    ensures { result ≡ size z (numbered of) }
 {
-    if field { z.field } else { z.shared }
+    match of {
+        Whereabouts::Field => z.field,
+        Whereabouts::Group(_) => z.shared,
+    }
 }
 
-// The place of a cell of the field, or of group g, if it is there.
-pub fn spot(z: Sizes, field: bool, g: usize, c: u32) -> Option<usize>
-    requires group { g < z.groups }
-    ensures { MatchOption result (size z (whose field g) ≤ c) (λ i. (i ≡ base z (whose field g) + c) × (c < size z (whose field g)) × (i < cells_room z)) }
+// The place of a cell of the field, or of a group, if it is there.
+pub fn spot(z: Sizes, of: Whereabouts, c: u32) -> Option<usize>
+    requires there { numbered of ≤ z.groups }
+    ensures { MatchOption result (size z (numbered of) ≤ c) (λ i. (i ≡ base z (numbered of) + c) × (c < size z (numbered of)) × (i < cells_room z)) }
 {
-    let i = first_cell(z, field, g) + c as usize;
-    ((c as usize) < many_cells(z, field, g)).then_some(i)
+    let i = first_cell(z, of) + c as usize;
+    ((c as usize) < many_cells(z, of)).then_some(i)
 }
 
-// The place of n neighbouring cells of the field, or of group g, from cell c on, if all of them are there.
-pub fn spot_row(z: Sizes, field: bool, g: usize, c: u32, n: usize) -> Option<usize>
-    requires group { g < z.groups }
+// The place of n neighbouring cells of the field, or of a group, from cell c on, if all of them are there.
+pub fn spot_row(z: Sizes, of: Whereabouts, c: u32, n: usize) -> Option<usize>
+    requires there { numbered of ≤ z.groups }
     requires few { (0 < n) × (n ≤ 1024) }
-    ensures { MatchOption result (size z (whose field g) < c + n) (λ i. (i ≡ base z (whose field g) + c) × (c + n ≤ size z (whose field g)) × (i + n ≤ cells_room z)) }
+    ensures { MatchOption result (size z (numbered of) < c + n) (λ i. (i ≡ base z (numbered of) + c) × (c + n ≤ size z (numbered of)) × (i + n ≤ cells_room z)) }
 {
-    let i = spot(z, field, g, c)?;
-    (c as usize + n <= many_cells(z, field, g)).then_some(i)
+    let i = spot(z, of, c)?;
+    (c as usize + n <= many_cells(z, of)).then_some(i)
 }
 
 // The line at which the lane stands.

@@ -32,6 +32,7 @@ pub struct Held {
 }
 
 // An earlier touch that races.
+// `wrote` is a truth value: a touch writes or it reads.
 #[derive(Clone, Copy, Debug, PartialEq, Eq)]
 pub struct Found {
     pub who: Who,

@@ -30,6 +30,7 @@ fn number_of(digits: &[u8]) -> u32
 }
 
 // What the word text[at..end] is, if it is no word of the language: a number or a name; 0 if it is nothing.
+// 0 and no Option: a word that is nothing is worth 0, by the definition.
 fn number_or_name(text: &[u8], at: usize, end: usize) -> Leaf
     requires from { at ≤ end }
     requires to { end ≤ length text.now }

@@ -56,6 +56,7 @@ pub fn same(a: u32, b: u32) -> u32
     u32::from(a == b)
 }
 
+// A match: a function can't be handed out of a table.
 pub fn apply(op: Op, a: u32, b: u32) -> u32
     ensures { result ≡ op_of op a b }
 {

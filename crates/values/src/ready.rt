@@ -7,6 +7,7 @@ use crate::packed::{compact, eval_words};
 use crate::row::Row;
 
 // Puts the expression that stands at a byte of the text into the words from a place up to another; a 0 at the first if it does not fit.
+// A 0 and no Option: it stays in lent words between calls.
 pub fn make_ready(text: &[u8], at: usize, words: &mut [u32], from: usize, to: usize)
     requires some { from < to }
     requires there { to ≤ length words.old }

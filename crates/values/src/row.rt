@@ -1,4 +1,5 @@
 // A row of lanes: its group, how many lanes a group has, the number of its first lane, how many lanes it has, and its own numbers.
+// That `out` is as long as the row each function asks for itself: it is written, and a row is shared.
 ghost use Rattle.std.specs.Prelude.{ℕ, ◌+◌, ◌*◌, ◌^◌, ◌<◌, ◌≤◌, length};
 
 #[derive(Clone, Copy, Debug, PartialEq, Eq)]

@@ -25,6 +25,10 @@ pub turns-did : (n : ℕ) (d : Grid) (t : Turn) (ts : List Turn) → can n d t �
 unfolding turns
 turns-did n d t ts e = rw (turn-did n d t e)
 
+pub turns-idle : (n : ℕ) (d : Grid) (t : Turn) (ts : List Turn) → can n d t ≡ false → turns n d (t ∷ ts) ≡ turns n d ts
+unfolding turns
+turns-idle n d t ts e = rw (turn-idle n d t e)
+
 pub marked-did : (n : ℕ) (d : Grid) (t : Turn) (ts : List Turn) → can n d t ≡ true → marked n d (t ∷ ts) ≡ marks_at n d t ++ marked n (did n d t) ts
 unfolding marked
 marked-did n d t ts e = rw (turn-did n d t e, e)

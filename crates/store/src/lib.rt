@@ -17,12 +17,11 @@ pub use acts::{owner, perform};
 pub use fresh::{room_of, start};
 pub use groups::{go_on, phase_of, put_word, word_of};
 pub use rows::{branch_row, copy_cells, fill_row, put_row};
+use std::marker::Model;
 pub use tally::{ended_of, put_counts, waiting_of};
 pub use words::{
     go_wrong, is_wrong, line_of, own_base, own_of, place, put_own, spot, spot_row, stand,
 };
-
-use std::marker::Model;
 
 // How many groups, lanes in a group, own numbers of a lane, cells of a group, cells of the field. All of them are in bounds.
 #[derive(Clone, Copy)]

@@ -36,9 +36,9 @@ fn compact_word(text: &[u8], at: usize, words: &mut [u32], from: usize) -> Optio
     })
 }
 
-// Places, and no slices of their own: what is said of the words is said of places in the step that holds them.
 // The expression that stands at a byte of the text, put into the words from a place up to another, if it fits there; if not, these
 // words hold anything. It goes no deeper than there are words.
+// Places, and no slices of their own: what is said of the words is said of places in the step that holds them.
 pub fn compact(text: &[u8], at: usize, words: &mut [u32], from: usize, to: usize) -> Option<Behind>
     ensures kept { (k : ℕ) → (k < from) ⊎ (to ≤ k) → slice_index words.new k ≡ slice_index words.old k }
     ensures packed { IfSome result (λ b. Packed text.now at words.new from b × (b.word ≤ to)) }

@@ -66,6 +66,6 @@ module _ (mask i n : ℕ) (hm : mask < 2 ^ 32) (low : Lowest (mask / 2 ^ i) n) w
         (omega arith, omega arith, (λ j a b. runs k up j a (omega arith)), (let q : to - from ≡ k = omega arith in sym (shifted mask from to (omega arith)) ∙ ap (on (mask / 2 ^ from)) q ∙ left-off (mask / 2 ^ from) k small up.within up.here))
 
     pub spanned : (r : Option ℕ) → MatchOption r ((j : ℕ) → on (4294967295 - mask / 2 ^ from) j ≡ false) (λ k. Lowest (4294967295 - mask / 2 ^ from) k) → MatchOption r (to ≡ 32) (λ k. to ≡ from + k) →
-        Spanned mask i (record { start = from; end = to })
+        Spanned mask i (record { from = from; to = to })
     spanned r up is =
         let s = spans r up is in record { behind = omega arith; some = s.0; within = s.1; off = λ j a b. skips j a (omega arith); these = s.2; ends = s.3 }

@@ -7,7 +7,7 @@ mod words;
 ghost use Rattle.std.specs.Prelude.{◌≡◌, ℕ, ◌≤◌, ◌<◌, false, not, ◌&&◌, ◌||◌, MatchOption, nat_lt};
 ghost use Rattle.masks.specs.Masks.{on, lanes_in, lacking, Lowest};
 
-pub use spans::span_at;
+pub use spans::{Span, span_at};
 pub use words::at;
 
 // Lane i of the row is in the mask.

@@ -25,6 +25,10 @@ no_names ns text u n e k h =
       | inr p ↦ absurd (e (ap (λ t. take 4 t) (n.whole ∙ ap (λ t. t ++ n.rest) p.1) ∙ line-begins ns n.rest p.0))
     ]
 
+-- No name is empty.
+pub not-empty : (ns : List (List ℕ)) (text u : List ℕ) → NamesIn ns text → length u ≡ 0 → (k : ℕ) → k < length ns → get_or ns k [] ≢ u
+not-empty ns text u n e k h q = omega (arith, (n.names k h).some, ap length q)
+
 pub apart-spaced : (ns : List (List ℕ)) (z : List ℕ) → Apart z → Apart (spaced ns ++ z)
 apart-spaced [] z a = a
 apart-spaced (n ∷ ns) z a = refl

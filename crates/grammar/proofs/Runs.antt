@@ -1,12 +1,10 @@
 -- Runs of bytes from an index on.
-use Rattle.std.proofs.Common.{◌≡◌, ℕ, zero, suc, ◌+◌, ◌-◌, ◌*◌, ◌<◌, ◌≤◌, Bool, true, false, cond, List, [], ◌∷◌, get_or, drop, Some, None, SomeIff, sym, refl, ◌∙◌, add-zero, arith, rules, nat_lt}
-use Rattle.std.proofs.lemmas.List.{get_or-drop}
+use Rattle.std.proofs.Common.{◌≡◌, ℕ, zero, suc, ◌+◌, ◌-◌, ◌*◌, ◌<◌, min, Bool, true, false, cond, List, [], ◌∷◌, length, get_or, take, drop, sym, refl, ◌∙◌, add-zero, arith, rules}
+use Rattle.std.proofs.lemmas.List.{at_drop_more, get_or-drop}
 use Rattle.std.proofs.lemmas.List.Recursion.{same_from_clauses}
-use Rattle.std.proofs.lemmas.Bool.{cond_both}
-use Rattle.std.specs.List.{fold, prefix_len}
-use borrow.Author.Tests.{ltb-true, ltb-false}
-use Rattle.grammar.specs.Spelling.{decimal}
-use Rattle.grammar.specs.Runs.{run_of, push_digit}
+use Rattle.std.specs.List.{prefix_len}
+use Rattle.grammar.specs.Spelling.{digit, decimal}
+use Rattle.grammar.specs.Runs.{run_of}
 
 pub run_step : (f : ℕ → Bool) (b : ℕ) (bs : List ℕ) → f b ≡ true → run_of f (b ∷ bs) ≡ suc (run_of f bs)
 unfolding run_of
@@ -15,6 +13,11 @@ run_step f b bs h = rw h
 pub run-stop : (f : ℕ → Bool) (b : ℕ) (bs : List ℕ) → f b ≡ false → run_of f (b ∷ bs) ≡ 0
 unfolding run_of
 run-stop f b bs h = rw h
+
+pub run_more : (f : ℕ → Bool) (t : List ℕ) (j : ℕ) → j < length t → f (get_or t j 0) ≡ true → j + run_of f (drop j t) ≡ (j + 1) + run_of f (drop (j + 1) t)
+run_more f t j lt h =
+    let e : run_of f (drop j t) ≡ suc (run_of f (drop (j + 1) t)) = at_drop_more (run_of f) t j 0 lt ∙ run_step f (get_or t j 0) (drop (j + 1) t) h in
+    omega (arith, e)
 
 pub run-nil : (f : ℕ → Bool) → run_of f [] ≡ 0
 unfolding run_of
@@ -37,22 +40,22 @@ pub run_is : (f : ℕ → Bool) (l : List ℕ) → run_of f l ≡ prefix_len f l
 unfolding run_of
 run_is f l = same_from_clauses (run_of f) (prefix_len f) (λ b n. cond (f b) (suc n) 0) refl (λ b bs. refl) (λ b bs. search rules) l
 
--- Digits only make a number larger.
-decimal_grows : (ds : List ℕ) (a : ℕ) → a ≤ decimal a ds
+sat-decimal : (ds : List ℕ) (a b : ℕ) → min a 4294967296 ≡ min b 4294967296 → min (decimal a ds) 4294967296 ≡ min (decimal b ds) 4294967296
 unfolding decimal
-decimal_grows [] a = omega arith
-decimal_grows (d ∷ ds) a = omega (arith, decimal_grows ds (a * 10 + (d - 48)))
+sat-decimal [] a b h = h
+sat-decimal (d ∷ ds) a b h = sat-decimal ds (a * 10 + (d - 48)) (b * 10 + (d - 48)) (omega arith)
 
-fold-none : (ds : List ℕ) → fold push_digit None ds ≡ None
-fold-none [] = refl
-fold-none (d ∷ ds) = fold-none ds
-
--- The digits behind a number below 2^32 are folded to the number of them all, if that is below 2^32.
-pub folded : (ds : List ℕ) (a : ℕ) → a < 4294967296 → SomeIff (fold push_digit (Some a) ds) (decimal a ds < 4294967296) (decimal a ds)
+digits_more : (a b : ℕ) (bs : List ℕ) → digit b ≡ true → decimal a (take (run_of digit (b ∷ bs)) (b ∷ bs)) ≡ decimal (a * 10 + (b - 48)) (take (run_of digit bs) bs)
 unfolding decimal
-folded [] a l = (l, refl)
-folded (d ∷ ds) a l =
-    let b : ℕ = a * 10 + (d - 48) in
-    cond_both (nat_lt b 4294967296) (Some b) None (λ o. SomeIff (fold push_digit o ds) (decimal b ds < 4294967296) (decimal b ds))
-    (λ h. folded ds b (ltb-true b 4294967296 h))
-    (λ h. rw fold-none (λ lt. omega (arith, ltb-false b 4294967296 h, decimal_grows ds b, lt)))
+digits_more a b bs h = rw (run_step digit b bs h)
+
+pub number_more : (t : List ℕ) (j a v : ℕ) → j < length t → digit (get_or t j 0) ≡ true → v ≡ min (a * 10 + (get_or t j 0 - 48)) 4294967296
+    → min (decimal v (take (run_of digit (drop (j + 1) t)) (drop (j + 1) t))) 4294967296 ≡ min (decimal a (take (run_of digit (drop j t)) (drop j t))) 4294967296
+number_more t j a v lt h e =
+    let p : decimal a (take (run_of digit (drop j t)) (drop j t)) ≡ decimal (a * 10 + (get_or t j 0 - 48)) (take (run_of digit (drop (j + 1) t)) (drop (j + 1) t))
+    = at_drop_more (λ l. decimal a (take (run_of digit l) l)) t j 0 lt ∙ digits_more a (get_or t j 0) (drop (j + 1) t) h in
+    rw p (sat-decimal (take (run_of digit (drop (j + 1) t)) (drop (j + 1) t)) v (a * 10 + (get_or t j 0 - 48)) (omega arith))
+
+pub number-none : (t : List ℕ) (j a : ℕ) → digit (get_or t j 0) ≡ false → decimal a (take (run_of digit (drop j t)) (drop j t)) ≡ a
+unfolding decimal
+number-none t j a h = rw (run_none digit t j h)

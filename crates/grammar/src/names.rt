@@ -38,6 +38,10 @@ pub fn place_among(text: &[u8], name: &[u8], many: usize) -> Option<usize>
 pub fn name_index(text: &[u8], from: usize, to: usize) -> Option<u32>
     ensures { to ≤ length text.now → (ns : List (List ℕ)) → NamesIn ns text.now → PlaceOf ns (between from to text.now) result }
 {
+    // An empty word is no name.
+    if from >= to {
+        return None;
+    }
     if !has_names(text) {
         return None;
     }

@@ -1,5 +1,5 @@
 -- Expressions that are one word.
-use Rattle.std.proofs.Common.{◌≡◌, ℕ, ◌-◌, ◌%◌, ◌<◌, ◌≤◌, true, false, ◌≢◌, List, [], length, get_or, drop, codes, sym, refl, ap, ◌∙◌, add-zero, arith}
+use Rattle.std.proofs.Common.{◌≡◌, ℕ, ◌-◌, ◌%◌, ◌<◌, ◌≤◌, true, false, ◌≢◌, List, [], length, get_or, drop, codes, Some, sym, refl, ap, ◌∙◌, add-zero, arith}
 use Rattle.std.specs.List.{between}
 use Rattle.std.proofs.lemmas.Bool.{false≢true, both_ways}
 use Rattle.std.proofs.lemmas.Bool.Decides.{nat_tests}
@@ -10,6 +10,8 @@ use Rattle.grammar.specs.Spelling.{Named, SpellsExpr, IsNumber, letter, digit, d
 use Rattle.grammar.specs.declared.keywords.Keyword.{Keyword}
 use Rattle.grammar.specs.declared.keywords.Keyword.TheVariants as kw
 use Rattle.grammar.specs.Runs.{written}
+use Rattle.grammar.specs.Walk.{key_of}
+use Rattle.grammar.proofs.Walks.{key-written}
 use Rattle.grammar.specs.Names.{NamesIn, FirstAt}
 use Rattle.grammar.proofs.Scanned.{byte_at}
 use Rattle.values.specs.declared.leaves.Leaf.{Leaf}
@@ -110,30 +112,9 @@ lanes-leaf text u q ns n di =
     word-cases ns u (LeafIs (length ns) Lanes) (λ a i. absurd (no_number text u (codes "lanes") q refl refl a i)) (λ k m. absurd (no_name text u (codes "lanes") q refl refl ns n k m))
     (λ p. absurd (omega (arith, ap length (sym q ∙ p)))) (λ p. absurd (omega (arith, ap (λ t. get_or t 0 0) (sym q ∙ p)))) (λ _. refl)
 
--- A word of the language that is no expression.
-module _ (text u : List ℕ) (k : Keyword) (q : u ≡ written k) (no_digit : digit (get_or (written k) 0 0) ≡ false) (word : one_of keywords (written k) ≡ true) (no_lane : get_or (written k) 0 0 ≢ 108) (no_group : get_or (written k) 0 0 ≢ 103) where
-  first_byte : (w : List ℕ) → u ≡ w → get_or (written k) 0 0 ≡ get_or w 0 0
-  first_byte w p = ap (λ t. get_or t 0 0) (sym q ∙ p)
-
-  mute_leaf : LeafAt simple text u (Fixed 0)
-  mute_leaf ns n di =
-      word-cases ns u (LeafIs (length ns) (Fixed 0)) (λ a i. absurd (no_number text u (written k) q no_digit word a i)) (λ j m. absurd (no_name text u (written k) q no_digit word ns n j m))
-      (λ p. absurd (no_lane (first_byte (codes "lane") p))) (λ p. absurd (no_group (first_byte (codes "group") p))) (λ p. absurd (no_lane (first_byte (codes "lanes") p)))
-
-pub mute-leaf : (text u : List ℕ) (k : Keyword) → u ≡ written k → k ≢ kw.Lane → k ≢ kw.Group → k ≢ kw.Lanes → LeafAt simple text u (Fixed 0)
-unfolding one_of keywords same_bytes
-mute-leaf text u kw.Own q a b c = mute_leaf text u kw.Own q refl refl (omega arith) (omega arith)
-mute-leaf text u kw.Cells q a b c = mute_leaf text u kw.Cells q refl refl (omega arith) (omega arith)
-mute-leaf text u kw.Cell q a b c = mute_leaf text u kw.Cell q refl refl (omega arith) (omega arith)
-mute-leaf text u kw.Field q a b c = mute_leaf text u kw.Field q refl refl (omega arith) (omega arith)
-mute-leaf text u kw.Barrier q a b c = mute_leaf text u kw.Barrier q refl refl (omega arith) (omega arith)
-mute-leaf text u kw.If q a b c = mute_leaf text u kw.If q refl refl (omega arith) (omega arith)
-mute-leaf text u kw.Else q a b c = mute_leaf text u kw.Else q refl refl (omega arith) (omega arith)
-mute-leaf text u kw.End q a b c = mute_leaf text u kw.End q refl refl (omega arith) (omega arith)
-mute-leaf text u kw.While q a b c = mute_leaf text u kw.While q refl refl (omega arith) (omega arith)
-mute-leaf text u kw.Lane q a b c = absurd (a refl)
-mute-leaf text u kw.Group q a b c = absurd (b refl)
-mute-leaf text u kw.Lanes q a b c = absurd (c refl)
+-- No two words of the language are written alike.
+pub same-word : (k j : Keyword) → written k ≡ written j → k ≡ j
+same-word k j e = let q : Some k ≡ Some j = sym (key-written k) ∙ ap key_of e ∙ key-written j in cc
 
 -- A word that is no word of the language.
 pub other-leaf : (text u : List ℕ) (r : Leaf) → (u ≡ codes "lane" → ⊥) → (u ≡ codes "group" → ⊥) → (u ≡ codes "lanes" → ⊥) → LeafAt plain text u r → LeafAt simple text u r

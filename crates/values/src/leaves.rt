@@ -58,6 +58,6 @@ pub fn leaf_of(text: &[u8], at: usize, end: usize) -> Leaf
         Keyword::Lane => Leaf::Lane,
         Keyword::Group => Leaf::Group,
         Keyword::Lanes => Leaf::Lanes,
-        _ => Leaf::Fixed(0),
+        _ => number_or_name(text, at, end),
     }
 }

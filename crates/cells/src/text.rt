@@ -18,7 +18,8 @@ fn read_from(heap: Global, text: &[u8], from: usize, base: Base) -> Result<Vec<u
     requires { from ≤ length text.now }
     ensures { ReadsText (cells_from base between_words from (drop from text.now)) result }
 {
-    let mut cells = Vec::new(heap);
+    // Each cell has a byte at least, and a byte that is none stands between two: so the room never grows.
+    let mut cells = Vec::with_capacity(heap, text.len() / 2 + 1).map_err(|_| Unread::NoMemory)?;
     let mut part = BETWEEN;
     let rest = &text[from..];
     for (k, byte) in rest.iter().enumerate() {

@@ -21,9 +21,12 @@ use Rattle.touches.specs.Kept.{mark_of, Rising}
 use Rattle.touches.specs.Whole as whole
 use Rattle.touches.specs.Whole.{Layout, Laid, Keepable, AllKept}
 use Rattle.machine.specs.declared.outcome.Race.{Race}
-use Rattle.machine.specs.Sofar.{layout, Sofar, Doing, paired_of, first_mark, second_mark}
+use Rattle.machine.specs.Sofar.{layout, Sofar, Doing, IsWho, paired_of, first_mark, second_mark}
 use Rattle.machine.proofs.Rows.{grid-more, marked_more, right_of}
 use Rattle.machine.proofs.Marks.{among-all, calm_more, shows-earlier, shows_later}
+
+pub who-is : (a : Who) (g l p i : ℕ) → IsWho a g l p i → a ≡ record { group = g; lane = l; phase = p; line = i }
+who-is a g l p i h = rw (sym h.group, sym h.lane, sym h.phase, sym h.line) refl
 
 -- cells lie apart, as the store has them
 in_range : (z : Sizes) (w c : ℕ) → c < cond (leb w z.groups) (size z w) 0 → (w ≤ z.groups) × (c < size z w)

@@ -1,5 +1,5 @@
 -- What is told where nothing can be done, and that the machine comes there.
-use Rattle.std.proofs.Common.{◌≡◌, ℕ, zero, suc, ◌+◌, ◌*◌, ◌<◌, ◌≤◌, true, false, ◌⊎◌, List, [], ◌∷◌, length, get_or, sym, refl, ap, ◌∙◌, subst, inl, inr, add-mul, arith}
+use Rattle.std.proofs.Common.{◌≡◌, ℕ, zero, suc, ◌+◌, ◌*◌, ◌<◌, ◌≤◌, ◌≢◌, true, false, ◌⊎◌, List, [], ◌∷◌, length, get_or, sym, refl, ap, ◌∙◌, subst, inl, inr, add-mul, arith}
 use Rattle.std.proofs.lemmas.Nat.{mul-le}
 use Rattle.std.proofs.lemmas.Bool.{cases_eq}
 use Rattle.std.proofs.lemmas.Bool.Decides.{nat_tests}
@@ -14,11 +14,23 @@ use Rattle.store.specs.Lent.{grid_of, memory_of, lane_at, line_at, phase_of_spec
 use Rattle.store.proofs.Grids.{the-lane-is, groups-long}
 use Rattle.machine.specs.declared.verdict.Verdict.{Verdict}
 use Rattle.machine.specs.declared.verdict.Verdict.TheVariants.{Field, Raced, Wrong, Stuck, TooLong}
+use Rattle.machine.specs.declared.look.Stance.{Stance}
+use Rattle.machine.specs.declared.look.Stance.TheVariants as stance
+use Rattle.machine.specs.Choices.{StanceIs}
 use Rattle.machine.specs.Verdict.{told_of, highest, StandsAt, Stepped, Gone, Over, sum_upto, left_over}
 use Rattle.machine.proofs.Stances.{all_of, lanes-long, lane-left}
 
 pub stance-ended : (b : Body) → stepping b ≡ false → at_barrier b ≡ false → ended b ≡ true
 stance-ended b s w = grind (arith, nat_tests)
+
+pub stance-waits : (b : Body) → stepping b ≡ false → ended b ≡ false → at_barrier b ≡ true
+stance-waits b s w = grind (arith, nat_tests)
+
+pub stance-on : (b : Body) (s : Stance) → StanceIs b s → s ≢ stance.Ended → ended b ≡ false
+unfolding at_barrier ended
+stance-on b stance.Steps h n = let s = h.0 in grind (arith, nat_tests)
+stance-on b stance.Waits h n = let w = h.1 in grind (arith, nat_tests)
+stance-on b stance.Ended h n = absurd (n refl)
 
 all_ended-from : (gs : List Group) → ((g : ℕ) → g < length gs → all_lanes ended (get_or gs g no_group).lanes_of ≡ true) → all_ended gs ≡ true
 unfolding all_ended

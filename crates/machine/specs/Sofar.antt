@@ -64,6 +64,13 @@ pub record Doing (z : Sizes) (at : ℕ → Body) (d : Grid) (ts : List Turn) (ls
   pub placed : Placed z deed
   pub turned : Turned z at ls cs ls' cs' g l deed
 
+-- Who it is.
+pub record IsWho (a : Who) (g l p i : ℕ) : Type 0 where
+  pub group : a.group ≡ g
+  pub lane : a.lane ≡ l
+  pub phase : a.phase ≡ p
+  pub line : a.line ≡ i
+
 -- The two touches in the order in which they are told.
 abbrev pub paired_of : Whereabouts → ℕ → Found → Found → Race
 paired_of w c a b =

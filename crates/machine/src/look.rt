@@ -1,6 +1,6 @@
 // What can be done next.
 ghost use Rattle.std.specs.Prelude.{◌≡◌, ℕ, suc, ◌+◌, ◌<◌, ◌≤◌, true, List, length};
-ghost use Rattle.lanes.specs.Syntax.{Body, at_barrier};
+ghost use Rattle.lanes.specs.Syntax.{Body, at_barrier, ended};
 ghost use Rattle.lanes.specs.Grid.{of, release, can};
 ghost use Rattle.grammar.specs.Spelling.{Named};
 ghost use Rattle.code.specs.Words.{step_at};
@@ -70,6 +70,15 @@ impl View<'_> {
         ensures { (at : ℕ → Body) → RunsIn self.now at → result ≡ at_barrier (at (line_at self.now.sizes self.now.lanes.now g l)) }
     {
         self.stance_of(g, l) == Stance::Waits
+    }
+
+    // Lane l of group g has ended.
+    pub(crate) fn has_ended(&self, g: usize, l: usize) -> bool
+        requires group { g < self.now.sizes.groups }
+        requires lane { l < self.now.sizes.lanes }
+        ensures { (at : ℕ → Body) → RunsIn self.now at → result ≡ ended (at (line_at self.now.sizes self.now.lanes.now g l)) }
+    {
+        matches!(self.stance_of(g, l), Stance::Ended)
     }
 
     // All lanes of group g wait: it can go on.

@@ -3,7 +3,7 @@ ghost use Rattle.std.specs.Prelude.{◌≡◌, ℕ, ◌<◌, List, [], ◌∷◌
 ghost use Rattle.lanes.specs.Syntax.{Body};
 ghost use Rattle.lanes.specs.Grid.{Grid, Turn, of};
 ghost use Rattle.store.specs.declared.Sizes.{Sizes};
-ghost use Rattle.machine.specs.Sofar.{After, Names, Doing, paired_of};
+ghost use Rattle.machine.specs.Sofar.{After, Names, Doing, paired_of, IsWho};
 
 use super::outcome::{Race, Stopped};
 use store::{Deed, Whereabouts};
@@ -27,6 +27,19 @@ fn paired(place: Whereabouts, cell: u32, a: Found, b: Found) -> Race
     }
 }
 
+// Who touches. The line is promised here: the clauses of `note` speak of marks, which have none.
+fn who_of(group: usize, lane: usize, phase: u64, line: u32) -> Who
+    requires { (group < 1024) × (lane < 1024) }
+    ensures { IsWho result group lane phase line }
+{
+    Who {
+        group: group as u32,
+        lane: lane as u32,
+        phase,
+        line,
+    }
+}
+
 // What came of the turn of a lane that did this deed at a line of the text: all is well, or it stops, by a race with an earlier touch or as
 // the lane went wrong.
 pub fn note(
@@ -45,12 +58,7 @@ pub fn note(
         Deed::Quiet => Ok(()),
         Deed::Wrong => Err(Stopped::Wrong { group, lane, line }),
         Deed::Touched(seen) => {
-            let who = Who {
-                group: group as u32,
-                lane: lane as u32,
-                phase,
-                line,
-            };
+            let who = who_of(group, lane, phase, line);
             match touch(kept, seen.index, who, seen.wrote) {
                 None => Ok(()),
                 Some(found) => Err(Stopped::Raced(paired(

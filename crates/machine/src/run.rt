@@ -16,13 +16,13 @@ use super::verdict::Verdict;
 use super::view::View;
 use store::Sizes;
 
-// A lane of the group waits.
+// A lane of the group waits, or can step; where nothing can be done, none can step.
 fn waiting(view: &View, g: usize) -> bool
     requires { g < view.now.sizes.groups }
     ensures { (at : ℕ → Body) (cs : List ℕ) → RunsIn view.now at → Still view.now.sizes.lanes (grid_in view.now at cs) → Waiting view.now.sizes at view.now.lanes.now g result }
 {
     let z = view.sizes;
-    (0..z.lanes).any(|l| view.waits(g, l))
+    (0..z.lanes).any(|l| !view.has_ended(g, l))
 }
 
 // What is told where nothing can be done: the field, or the first group that is stuck.

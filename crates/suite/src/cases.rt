@@ -1,5 +1,5 @@
 // Cases in a file. A part of a case is a line with its name and its length, then so many bytes, then byte 10.
-use grammar::numbers::read_number;
+use grammar::numbers::{Number, read_number};
 use std::io;
 
 // What has to be printed: these bytes, or one of these lines.
@@ -18,13 +18,30 @@ pub(crate) struct Case<'a> {
     told: Wanted<'a>,
 }
 
+// The number, or 2^32 if it is 2^32 or more.
+fn value_of(number: Number) -> usize {
+    number.value.map_or(4294967296, |value| value as usize)
+}
+
 impl Case<'_> {
-    // Whether a refusal has to be printed.
-    pub(crate) fn is_refused(&self) -> bool {
+    // The bytes of what has to be printed, or of the lines.
+    fn told(&self) -> &[u8] {
         match self.told {
-            Wanted::All(told) => told.starts_with(b"refused "),
-            Wanted::OneOf(_) => false,
+            Wanted::All(told) => told,
+            Wanted::OneOf(lines) => lines,
         }
+    }
+
+    // Whether a refusal has to be printed; of several lines the first is looked at.
+    pub(crate) fn is_refused(&self) -> bool {
+        self.told().starts_with(b"refused ")
+    }
+
+    // The same, with this number from byte 8 on and this place from byte 13 on, 0 where no digit stands. No other byte is looked at.
+    pub(crate) fn is_refused_at(&self, number: u8, place: usize) -> bool {
+        self.is_refused()
+            && value_of(read_number(self.told(), 8)) == number as usize
+            && value_of(read_number(self.told(), 13)) == place
     }
 
     // Whether the first n bytes that were printed are what the case has.
@@ -53,7 +70,7 @@ fn find_part<'a>(file: &'a [u8], name: &[u8]) -> Option<Part<'a>> {
     let line = file.strip_prefix(name)?;
     let length = read_number(line, 1);
     let behind = line.get(length.end..)?.get(1..)?;
-    let (bytes, rest) = behind.split_at_checked(length.value? as usize)?;
+    let (bytes, rest) = behind.split_at_checked(value_of(length))?;
     Some(Part {
         bytes,
         rest: rest.get(1..).unwrap_or(&[]),

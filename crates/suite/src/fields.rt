@@ -9,11 +9,15 @@ use formats::told::Told;
 use std::alloc::{AllocError, Global};
 use std::io;
 
-// The number that a digit in hexadecimal is.
+// The number that a digit in hexadecimal is; 0 of another byte, a capital too.
 fn digit(b: u8) -> u8
     ensures { result < 16 }
 {
-    char::from(b).to_digit(16).unwrap_or(0) as u8
+    match b {
+        b'0'..=b'9' => b - b'0',
+        b'a'..=b'f' => b - b'a' + 10,
+        _ => 0,
+    }
 }
 
 // Bytes from two digits each.

@@ -1,6 +1,5 @@
 // Texts: which are taken, how the others are refused, and how those that are taken are written anew.
 use crate::cases::count_right;
-use formats::print::print_refusal;
 use grammar::refusals::{refusal_number, refusal_place};
 use reader::texts::read;
 use std::io;
@@ -22,13 +21,8 @@ pub(crate) fn run_all(rt: &HostRuntime, file: &[u8]) -> io::Result<u64> {
 
 // How many texts are taken, or refused with the number and the place that the file has.
 pub(crate) fn read_all(file: &[u8]) -> io::Result<u64> {
-    let mut out = [0u8; 256];
     count_right(file, |case| match read(case.text) {
         Ok(_) => Ok(Some(!case.is_refused())),
-        Err(why) => {
-            let number = refusal_number(why) as u64;
-            let n = print_refusal(&mut out, number, refusal_place(why)).unwrap_or(0);
-            Ok(Some(case.is_right(&out, n)))
-        }
+        Err(why) => Ok(Some(case.is_refused_at(refusal_number(why), refusal_place(why)))),
     })
 }

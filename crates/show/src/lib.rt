@@ -2,6 +2,7 @@
 #![tactic(auto)]
 
 mod lines;
+mod order;
 mod programs;
 mod slices;
 mod told;

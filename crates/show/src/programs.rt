@@ -5,6 +5,7 @@ ghost use Rattle.reader.specs.Texts.{read_at};
 ghost use Rattle.show.specs.Ends.{EndsWell};
 
 use crate::lines::show_refused;
+use crate::order::{AsWritten, InTurn, Order};
 use crate::slices::lend;
 use crate::told::show;
 use calls::plan::Refused;
@@ -15,11 +16,11 @@ use std::io::Write;
 use writer::anew::rewrite;
 
 // Lends memory, runs the text on the field in it, and shows what is told.
-fn shown(rt: &HostRuntime, text: &[u8], bytes: &[u8], turns: Option<&[Written]>) -> io::Result<()>
+fn shown<O: Order>(rt: &HostRuntime, order: &O, text: &[u8], bytes: &[u8]) -> io::Result<()>
     ensures { OnOk result (EndsWell text.now bytes.now) }
 {
     let mut lent = lend(rt, text, bytes)?;
-    let answer = lent.run(text, bytes, turns);
+    let answer = lent.run_by(order, text, bytes);
     show(rt, text, answer, lent.printed.as_slice())
 }
 
@@ -27,14 +28,14 @@ fn shown(rt: &HostRuntime, text: &[u8], bytes: &[u8], turns: Option<&[Written]>)
 pub fn run_shown(rt: &HostRuntime, text: &[u8], bytes: &[u8]) -> io::Result<()>
     ensures { OnOk result (EndsWell text.now bytes.now) }
 {
-    shown(rt, text, bytes, None)
+    shown(rt, &InTurn, text, bytes)
 }
 
 // Does the turns that are written down, and then one lane after the other.
 pub fn any_shown(rt: &HostRuntime, turns: &[Written], text: &[u8], bytes: &[u8]) -> io::Result<()>
     ensures { OnOk result (EndsWell text.now bytes.now) }
 {
-    shown(rt, text, bytes, Some(turns))
+    shown(rt, &AsWritten { turns }, text, bytes)
 }
 
 // The turns of a file; a line that is none is named on standard error.

@@ -3,10 +3,11 @@ ghost use Rattle.std.specs.Prelude.{◌≡◌, ◌≤◌, IfOk, vec_len};
 ghost use Rattle.calls.specs.Answers.{Answered};
 ghost use Rattle.show.specs.Ends.{held};
 
+use crate::order::{AsWritten, InTurn, Order};
 use calls::answer::Answer;
 use calls::memory::Memory;
 use calls::plan::Refused;
-use calls::programs::{any_text, room_for, run_text};
+use calls::programs::room_for;
 use formats::sizes::Room;
 use machine::script::Written;
 use std::io;
@@ -42,11 +43,11 @@ pub fn lend(rt: &HostRuntime, text: &[u8], bytes: &[u8]) -> io::Result<Slices>
     })
 }
 
-// Runs the text on the field in these slices: does the turns, if there are some written down, and then one lane after the other.
-fn run_in(
+// Runs the text on the field in these slices.
+fn run_in<O: Order>(
+    order: &O,
     text: &[u8],
     bytes: &[u8],
-    turns: Option<&[Written]>,
     steps: &mut [u32],
     lanes: &mut [u32],
     cells: &mut [u32],
@@ -62,14 +63,32 @@ fn run_in(
         marks,
         printed,
     };
-    match turns {
-        Some(turns) => any_text(turns, text, bytes, &mut lent),
-        None => run_text(text, bytes, &mut lent),
-    }
+    order.call(text, bytes, &mut lent)
 }
 
 impl Slices {
-    // Runs the text on the field in this memory.
+    // Runs the text on the field in this memory, in an order.
+    pub(crate) fn run_by<O: Order>(
+        &mut self,
+        order: &O,
+        text: &[u8],
+        bytes: &[u8],
+    ) -> Result<Answer, Refused>
+        ensures { Answered text.now bytes.now (held self.old) (held self.new) result }
+    {
+        run_in(
+            order,
+            text,
+            bytes,
+            self.steps.as_mut_slice(),
+            self.lanes.as_mut_slice(),
+            self.cells.as_mut_slice(),
+            self.marks.as_mut_slice(),
+            self.printed.as_mut_slice(),
+        )
+    }
+
+    // Does the turns, if there are some written down, and then one lane after the other.
     pub fn run(
         &mut self,
         text: &[u8],
@@ -78,15 +97,9 @@ impl Slices {
     ) -> Result<Answer, Refused>
         ensures { Answered text.now bytes.now (held self.old) (held self.new) result }
     {
-        run_in(
-            text,
-            bytes,
-            turns,
-            self.steps.as_mut_slice(),
-            self.lanes.as_mut_slice(),
-            self.cells.as_mut_slice(),
-            self.marks.as_mut_slice(),
-            self.printed.as_mut_slice(),
-        )
+        match turns {
+            Some(turns) => self.run_by(&AsWritten { turns }, text, bytes),
+            None => self.run_by(&InTurn, text, bytes),
+        }
     }
 }

@@ -102,7 +102,7 @@ fn put_told(pen: &mut Pen, told: Told, cells: &[u32])
 }
 
 // Prints what is told, with the cells of the field, and answers how many bytes that took.
-// Kept apart from the run that it ends (`#[inline(never)]`): as one piece with it, each cell takes twice as long.
+// Kept apart from the run that it ends (`#[inline(never)]`): as one piece with it, each cell takes twice the instructions.
 #[inline(never)]
 pub fn print_told(out: &mut [u8], told: Told, cells: &[u32]) -> Result<usize, Refusal>
     ensures { Prints (10 * length cells.now + 256) (printed told cells.now) out.old out.new result }
